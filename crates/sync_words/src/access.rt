@@ -1,0 +1,99 @@
+ghost use Rattle.std.specs.Prelude.{◌≡◌, ◌≤◌};
+ghost use Rattle.sync_words.specs.Access.{applied, IsWithin, LeavesWord};
+
+/// The greatest number that a word holds. In the counter it says that the session is closed, and
+/// in the word of the boot processor that there is none.
+pub const LOCKED: u32 = 16_777_215;
+
+/// What an actor does to a word. The numbers are at most [`LOCKED`], that of `Raise` at most 4.
+#[derive(Clone, Copy, Debug, PartialEq, Eq)]
+pub enum Access {
+    /// Reads the word.
+    Look,
+    /// Writes a number.
+    Put(u32),
+    /// Adds one to a counter or a semaphore that isn't locked.
+    Up,
+    /// Takes one from a semaphore, and waits while it is 0.
+    Down,
+    /// Takes one from a counter that isn't locked or 0.
+    Lower,
+    /// Locks a counter.
+    Lock,
+    /// Writes the second number where the word has the first.
+    Claim(u32, u32),
+    /// Waits until the word has the first number, and then writes the second.
+    Await(u32, u32),
+    /// Waits until the word is below a number.
+    Seek(u32),
+    /// Makes an interrupt signal deliverable where there is none, or one that is held.
+    Signal,
+    /// Takes a deliverable signal and marks the processor as inside, or sees that it is off.
+    TakeSmi,
+    /// Takes the mark of a processor that is inside.
+    ClearSmi,
+    /// Replaces an interrupt signal, and waits while a deliverable one stands. Off stays off.
+    Raise(u32),
+}
+
+/// What an access does to the number that it finds.
+#[derive(Clone, Copy, Debug, PartialEq, Eq)]
+pub enum Applied {
+    Changed { new: u32, found: u32 },
+    Same { found: u32 },
+    /// The actor has to wait, and the word stays.
+    NotReady { found: u32 },
+}
+
+/// What `access` does to a word with this value. Constant time, no memory.
+pub fn apply(value: u32, access: Access) -> Applied
+    requires value_fits { value ≤ LOCKED }
+    requires access_fits { IsWithin access }
+    ensures meaning { result ≡ applied value access }
+    ensures fits { LeavesWord result }
+{
+    let found = value;
+    let signal = value % 8;
+    match access {
+        Access::Look => Applied::Same { found },
+        Access::Put(new) => Applied::Changed { new, found },
+        Access::Up if value == LOCKED => Applied::Same { found },
+        Access::Up => Applied::Changed {
+            new: value + 1,
+            found,
+        },
+        Access::Down if value == 0 => Applied::NotReady { found },
+        Access::Lower if value == LOCKED || value == 0 => Applied::Same { found },
+        Access::Down | Access::Lower => Applied::Changed {
+            new: value - 1,
+            found,
+        },
+        Access::Lock => Applied::Changed { new: LOCKED, found },
+        Access::Claim(from, new) if value == from => Applied::Changed { new, found },
+        Access::Claim(_, _) => Applied::Same { found },
+        Access::Await(from, _) if value != from => Applied::NotReady { found },
+        Access::Await(from, new) if from == new => Applied::Same { found },
+        Access::Await(_, new) => Applied::Changed { new, found },
+        Access::Seek(below) if value < below => Applied::Same { found },
+        Access::Seek(_) => Applied::NotReady { found },
+        Access::Signal if signal != 0 && signal != 2 => Applied::Same { found },
+        Access::Signal => Applied::Changed {
+            new: value - signal + 1,
+            found,
+        },
+        Access::TakeSmi if value == 4 => Applied::Same { found },
+        Access::TakeSmi if value == 1 => Applied::Changed { new: 8, found },
+        Access::TakeSmi => Applied::NotReady { found },
+        Access::ClearSmi if value < 8 => Applied::Same { found },
+        Access::ClearSmi => Applied::Changed {
+            new: value - 8,
+            found,
+        },
+        Access::Raise(_) if signal == 4 => Applied::Same { found },
+        Access::Raise(_) if signal == 1 => Applied::NotReady { found },
+        Access::Raise(to) => Applied::Changed {
+            new: value - signal + to,
+            found,
+        },
+    }
+}

@@ -1,0 +1,15 @@
+// The shared words of the rendezvous: which there are, what is done to them, and what an event says.
+#![tactic(auto)]
+
+mod access;
+mod event;
+mod label;
+mod row;
+mod word;
+
+pub use access::{Access, Applied, LOCKED, apply};
+pub use event::{Event, Hand, Want};
+pub use label::{Label, StartRefusal};
+pub use row::Row;
+pub use smm_base::{After, HandlerType, Register, Status};
+pub use word::WordId;

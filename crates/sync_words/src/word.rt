@@ -1,0 +1,25 @@
+/// A shared word. Each holds a number from 0 to 16,777,215. The last four are one for each processor.
+#[derive(Clone, Copy, Debug, PartialEq, Eq, PartialOrd, Ord)]
+pub enum WordId {
+    /// How many processors were counted in, or [`crate::LOCKED`] while the session is closed.
+    Counter,
+    /// The number of the boot processor, or [`crate::LOCKED`] for none.
+    Bsp,
+    /// 1 from the boot processor's first step until its handlers are done, else 0.
+    Inside,
+    /// 1 from just before the counter is locked until the session ends, else 0.
+    Insync,
+    /// The number of the wave that raised the interrupt, or 0.
+    Source,
+    /// How many processors the wave announced as blocked.
+    Except,
+    /// The interrupt signal of a processor: 0 none, 1 deliverable, 2 held until an IPI, 3 blocked,
+    /// 4 off; plus 8 while the processor is inside.
+    Pend(u16),
+    /// 0, 1 where the processor has reported, 2 where its desk was taken then.
+    Present(u16),
+    /// The semaphore that a processor waits on.
+    Run(u16),
+    /// 0 idle, 1 where a job was given, 2 where the job was run.
+    Busy(u16),
+}
