@@ -1,5 +1,5 @@
-/// Where an actor stands in the protocol: each row wants one access. A number is that of the row's
-/// own loop, a processor or the looks made so far.
+/// Where an actor that isn't off stands in the protocol: each row wants one access. A number is that
+/// of the row's own loop, a processor or the looks made so far.
 #[derive(Clone, Copy, Debug, PartialEq, Eq)]
 pub enum Row {
     // A processor's rows.
@@ -43,5 +43,4 @@ pub enum Row {
     AwaitServed,
     /// Turns the signal of a processor off.
     RaiseOff(u16),
-    Off,
 }

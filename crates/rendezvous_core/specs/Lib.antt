@@ -1,0 +1,6 @@
+pub mod Answer
+pub mod Machine
+pub mod Platform
+pub mod Protocol
+pub mod Serving
+pub mod Worlds

@@ -1,0 +1,54 @@
+-- The platform: how many processors there are, what comes, and how long each part may take.
+use Rattle.std.specs.Prelude.{ℕ, zero, suc, ◌-◌, Bool, true, false, List, [], length, Option, Some, None, slice_get, slice_index_or}
+use Rattle.std.specs.List.{count_by}
+use Rattle.smm_base.specs.declared.kinds.HandlerType.{HandlerType}
+use Rattle.rendezvous_core.specs.declared.phase.Arrival.{Arrival}
+use Rattle.rendezvous_core.specs.declared.phase.Arrival.TheVariants.{Prompt, Delayed, Blocked, Absent}
+
+-- a wave: how each processor meets its interrupt, and the walks that its boot processor makes
+pub record Wave : Type 0 where
+  pub status : List Arrival
+  pub manage : List HandlerType
+
+-- The platform. The policy is `elected`, the mode is the traditional one, and no handler is registered.
+pub record Platform : Type 0 where
+  pub processors : ℕ
+  pub t1 : ℕ  -- looks of the first round
+  pub t2 : ℕ  -- looks of the second round
+  pub visits : ℕ  -- of each processor
+  pub ops : ℕ  -- units of serving in one session
+  pub waves : List Wave
+
+-- the wave with this number, counted from 1
+abbrev pub wave_at : Platform → ℕ → Option Wave
+wave_at p zero = None
+wave_at p (suc n) = slice_get p.waves n
+
+abbrev pub is_blocked : Arrival → Bool
+is_blocked Prompt = false
+is_blocked Delayed = false
+is_blocked Blocked = true
+is_blocked Absent = false
+
+abbrev pub status_in : Option Wave → List Arrival
+status_in None = []
+status_in (Some w) = w.status
+
+-- how many processors the wave announces as blocked
+abbrev pub blocked_in : Option Wave → ℕ
+blocked_in w = count_by is_blocked (status_in w)
+
+-- the signal that the wave raises at a processor: 1 deliverable, 2 held until an IPI, 3 blocked
+abbrev pub signal_of : Arrival → ℕ
+signal_of Prompt = 1
+signal_of Delayed = 2
+signal_of Blocked = 3
+signal_of Absent = 3
+
+abbrev pub signal_at : Option Wave → ℕ → ℕ
+signal_at w j = signal_of (slice_index_or (status_in w) j Absent)
+
+-- the walks of a session that serves the wave: none where there is no such wave
+abbrev pub manage_in : Option Wave → List HandlerType
+manage_in None = []
+manage_in (Some w) = w.manage

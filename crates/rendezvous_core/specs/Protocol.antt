@@ -1,0 +1,255 @@
+-- The protocol as a table: for each row the word that is wanted, the access, the hand, and by the number found the
+-- label, the next row and what the actor keeps. The rows are those that one processor and the chipset meet. On such
+-- a platform each loop over other processors is empty, and so its rows are passed over.
+use Rattle.std.specs.Prelude.{ℕ, zero, suc, ◌+◌, ◌==◌, nat_le, nat_lt, nat_eq, Bool, true, false, ◌&&◌, if◌then◌else◌, List, [], ◌∷◌, length, Option, Some, None, is_some}
+use Rattle.smm_base.specs.declared.kinds.After.TheVariants.{Next}
+use Rattle.sync_words.specs.declared.word.WordId.{WordId}
+use Rattle.sync_words.specs.declared.word.WordId.TheVariants as word
+use Rattle.sync_words.specs.declared.access.Access.{Access}
+use Rattle.sync_words.specs.declared.access.Access.TheVariants as access
+use Rattle.sync_words.specs.declared.access.TheConstants.{LOCKED}
+use Rattle.sync_words.specs.declared.event.Hand.{Hand}
+use Rattle.sync_words.specs.declared.event.Hand.TheVariants.{Nothing, Give, Take}
+use Rattle.sync_words.specs.declared.label.Label.{Label}
+use Rattle.sync_words.specs.declared.label.Label.TheVariants as label
+use Rattle.sync_words.specs.declared.row.Row.{Row}
+use Rattle.sync_words.specs.declared.row.Row.TheVariants.{AwaitSmi, SwitchOff, LookAtSource, LookAtInside, CountIn, ClaimBsp, AwaitBsp, MarkInside, TakeSource, LookAtExcept, GatherFirst, GatherSecond, MarkInsync, LockCounter, Serve, LeaveInside, GiveBsp, LeaveInsync, UnlockCounter, AwaitSessionEnd, ClearSignal, AnnounceBlocked, AnnounceWave, RaiseWave, WatchSource, AwaitServed, RaiseOff}
+use Rattle.rendezvous_core.specs.Platform.{Platform, wave_at, blocked_in, signal_at}
+use Rattle.rendezvous_core.specs.Serving.{serving_said}
+
+-- The chair of the boot processor: what it has still to say of the session's serving.
+pub record Chair : Type 0 where
+  pub still_to_say : List Label
+
+-- The position of an actor, with what it has found so far and what it holds.
+pub record Seat : Type 0 where
+  pub row : Option Row  -- none once it is off
+  pub visits : ℕ  -- how many it has made
+  pub source : ℕ  -- what it found in `source` as it came in
+  pub inside : ℕ  -- what it found in `inside` as it came in
+  pub wave : ℕ  -- the wave that it serves; of the chipset the one that it announces
+  pub blocked : ℕ  -- what it found in `except`
+  pub chair : Option Chair
+
+-- the word that the actor `me` wants at a row
+abbrev pub word_of : ℕ → Row → WordId
+word_of me AwaitSmi = word.Pend me
+word_of me SwitchOff = word.Pend me
+word_of me LookAtSource = word.Source
+word_of me LookAtInside = word.Inside
+word_of me CountIn = word.Counter
+word_of me ClaimBsp = word.Bsp
+word_of me AwaitBsp = word.Inside
+word_of me MarkInside = word.Inside
+word_of me TakeSource = word.Source
+word_of me LookAtExcept = word.Except
+word_of me (GatherFirst looks) = word.Counter
+word_of me (GatherSecond looks) = word.Counter
+word_of me MarkInsync = word.Insync
+word_of me LockCounter = word.Counter
+word_of me Serve = word.Inside
+word_of me LeaveInside = word.Inside
+word_of me GiveBsp = word.Bsp
+word_of me LeaveInsync = word.Insync
+word_of me UnlockCounter = word.Counter
+word_of me AwaitSessionEnd = word.Insync
+word_of me ClearSignal = word.Pend me
+word_of me AnnounceBlocked = word.Except
+word_of me AnnounceWave = word.Source
+word_of me (RaiseWave j) = word.Pend j
+word_of me (WatchSource looks) = word.Source
+word_of me AwaitServed = word.Inside
+word_of me (RaiseOff j) = word.Pend j
+
+-- what it does to that word
+abbrev pub access_of : Platform → ℕ → Seat → Row → Access
+access_of p me s AwaitSmi = access.TakeSmi
+access_of p me s SwitchOff = access.Put 4
+access_of p me s LookAtSource = access.Look
+access_of p me s LookAtInside = access.Look
+access_of p me s CountIn = access.Up
+access_of p me s ClaimBsp = access.Claim LOCKED me
+access_of p me s AwaitBsp = access.Look
+access_of p me s MarkInside = access.Put 1
+access_of p me s TakeSource = access.Put 0
+access_of p me s LookAtExcept = access.Look
+access_of p me s (GatherFirst looks) = access.Look
+access_of p me s (GatherSecond looks) = access.Look
+access_of p me s MarkInsync = access.Put 1
+access_of p me s LockCounter = access.Lock
+access_of p me s Serve = access.Look
+access_of p me s LeaveInside = access.Put 0
+access_of p me s GiveBsp = access.Put LOCKED
+access_of p me s LeaveInsync = access.Put 0
+access_of p me s UnlockCounter = access.Put 0
+access_of p me s AwaitSessionEnd = access.Await 0 0
+access_of p me s ClearSignal = access.ClearSmi
+access_of p me s AnnounceBlocked = access.Put (blocked_in (wave_at p s.wave))
+access_of p me s AnnounceWave = access.Put s.wave
+access_of p me s (RaiseWave j) = access.Raise (signal_at (wave_at p s.wave) j)
+access_of p me s (WatchSource looks) = access.Look
+access_of p me s AwaitServed = access.Await 0 0
+access_of p me s (RaiseOff j) = access.Raise 4
+
+-- what changes hands where the word changes: the chair is numbered as the chipset is
+abbrev pub hand_of : Platform → Row → Hand
+hand_of p ClaimBsp = Take p.processors
+hand_of p GiveBsp = Give p.processors
+hand_of p _ = Nothing
+
+-- are all there that the boot processor waits for, where it found so many counted?
+abbrev pub are_all_there : Platform → Seat → ℕ → Bool
+are_all_there p s found = nat_le p.processors (found + s.blocked)
+
+-- the label of a look for all to have come: the last of its round ends the round
+abbrev pub look_label : Bool → Bool → ℕ → ℕ → Label
+look_label true last round found = label.Ready found
+look_label false true round found = label.Expire round
+look_label false false round found = label.Silent
+
+-- what a session says next
+abbrev pub next_said : Option Chair → Label
+next_said None = label.Silent
+next_said (Some c) = first_said c.still_to_say where
+  first_said : List Label → Label
+  first_said [] = label.Silent
+  first_said (l ∷ ls) = l
+
+-- what the event says
+abbrev pub label_of : Platform → Seat → Row → ℕ → Label
+label_of p s AwaitSmi found = if found == 1 then label.Enter else label.Off
+label_of p s SwitchOff found = label.Off
+label_of p s LookAtSource found = label.Silent
+label_of p s LookAtInside found = if (s.source == 0 && found == 0) then label.Turn else label.Silent
+label_of p s CountIn found = if found == LOCKED then label.Late else label.Arrive
+label_of p s ClaimBsp found = if found == LOCKED then label.Elect else label.Silent
+label_of p s AwaitBsp found = label.Silent
+label_of p s MarkInside found = label.Silent
+label_of p s TakeSource found = label.Served found
+label_of p s LookAtExcept found = label.Gather found
+label_of p s (GatherFirst looks) found = look_label (are_all_there p s found) (nat_le p.t1 (looks + 1)) 1 found
+label_of p s (GatherSecond looks) found = look_label (are_all_there p s found) (nat_le p.t2 (looks + 1)) 2 found
+label_of p s MarkInsync found = label.Silent
+label_of p s LockCounter found = label.Close found
+label_of p s Serve found = next_said s.chair
+label_of p s LeaveInside found = label.Done
+label_of p s GiveBsp found = label.Silent
+label_of p s LeaveInsync found = label.Silent
+label_of p s UnlockCounter found = label.End
+label_of p s AwaitSessionEnd found = label.Silent
+label_of p s ClearSignal found = label.Resume Next
+label_of p s AnnounceBlocked found = label.Excepted (blocked_in (wave_at p s.wave))
+label_of p s AnnounceWave found = label.Wave s.wave
+label_of p s (RaiseWave j) found = label.Silent
+label_of p s (WatchSource looks) found = label.Silent
+label_of p s AwaitServed found = label.Silent
+label_of p s (RaiseOff j) found = label.Silent
+
+-- a processor waits for an interrupt, but after all its visits it turns itself off
+abbrev pub to_await : Platform → Seat → Row
+to_await p s = if nat_le p.visits s.visits then SwitchOff else AwaitSmi
+
+-- the row after a look for all to have come, where the round goes on or ends
+abbrev pub look_row : Bool → Bool → Row → Row → Row
+look_row true last again after = MarkInsync
+look_row false true again after = after
+look_row false false again after = again
+
+-- the rows of a loop over all processors
+abbrev pub each_processor : Platform → (ℕ → Row) → ℕ → Option Row → Option Row
+each_processor p at j after = if nat_lt j p.processors then Some (at j) else after
+
+-- the chipset goes on to its next wave, or turns all signals off after its last
+abbrev pub to_wave : Platform → ℕ → Row
+to_wave p w = if nat_le w (length p.waves) then AnnounceBlocked else RaiseOff 0
+
+-- serving goes on while there is something to say
+abbrev pub serving_row : Option Chair → Row
+serving_row None = LeaveInside
+serving_row (Some c) = more_to_say c.still_to_say where
+  more_to_say : List Label → Row
+  more_to_say [] = LeaveInside
+  more_to_say (l ∷ []) = LeaveInside
+  more_to_say (l ∷ m ∷ ls) = Serve
+
+-- the row after the event, or none where the actor is off then
+abbrev pub row_after : Platform → Seat → Row → ℕ → Option Row
+row_after p s AwaitSmi found = if found == 1 then Some LookAtSource else None
+row_after p s SwitchOff found = None
+row_after p s LookAtSource found = Some LookAtInside
+row_after p s LookAtInside found = Some (if (s.source == 0 && found == 0) then AwaitSessionEnd else CountIn)
+row_after p s CountIn found = Some (if found == LOCKED then AwaitSessionEnd else (if s.inside == 0 then ClaimBsp else AwaitBsp))
+row_after p s ClaimBsp found = Some (if found == LOCKED then MarkInside else AwaitBsp)
+-- the way of a processor that isn't the boot processor goes on from here, on platforms that have two
+row_after p s AwaitBsp found = Some AwaitBsp
+row_after p s MarkInside found = Some TakeSource
+row_after p s TakeSource found = Some LookAtExcept
+row_after p s LookAtExcept found = Some (GatherFirst 0)
+row_after p s (GatherFirst looks) found = Some (look_row (are_all_there p s found) (nat_le p.t1 (looks + 1)) (GatherFirst (looks + 1)) (GatherSecond 0))
+row_after p s (GatherSecond looks) found = Some (look_row (are_all_there p s found) (nat_le p.t2 (looks + 1)) (GatherSecond (looks + 1)) MarkInsync)
+row_after p s MarkInsync found = Some LockCounter
+row_after p s LockCounter found = Some Serve
+row_after p s Serve found = Some (serving_row s.chair)
+row_after p s LeaveInside found = Some GiveBsp
+row_after p s GiveBsp found = Some LeaveInsync
+row_after p s LeaveInsync found = Some UnlockCounter
+row_after p s UnlockCounter found = Some AwaitSessionEnd
+row_after p s AwaitSessionEnd found = Some ClearSignal
+row_after p s ClearSignal found = Some (to_await p s)
+row_after p s AnnounceBlocked found = Some AnnounceWave
+row_after p s AnnounceWave found = each_processor p RaiseWave 0 (Some (WatchSource 0))
+row_after p s (RaiseWave j) found = each_processor p RaiseWave (j + 1) (Some (WatchSource 0))
+row_after p s (WatchSource looks) found = Some (if found == 0 then AwaitServed else (if nat_le (p.t1 + p.t2) (looks + 1) then AwaitServed else WatchSource (looks + 1)))
+row_after p s AwaitServed found = Some (to_wave p (s.wave + 1))
+row_after p s (RaiseOff j) found = each_processor p RaiseOff (j + 1) None
+
+-- what the actor keeps of the number found
+abbrev pub visits_after : Seat → Row → ℕ → ℕ
+visits_after s AwaitSmi found = if found == 1 then s.visits + 1 else s.visits
+visits_after s _ found = s.visits
+
+abbrev pub source_after : Seat → Row → ℕ → ℕ
+source_after s LookAtSource found = found
+source_after s _ found = s.source
+
+abbrev pub inside_after : Seat → Row → ℕ → ℕ
+inside_after s LookAtInside found = found
+inside_after s _ found = s.inside
+
+abbrev pub wave_after : Seat → Row → ℕ → ℕ
+wave_after s TakeSource found = found
+wave_after s AwaitServed found = s.wave + 1
+wave_after s _ found = s.wave
+
+abbrev pub blocked_after : Seat → Row → ℕ → ℕ
+blocked_after s LookAtExcept found = found
+blocked_after s _ found = s.blocked
+
+-- the chair after one label more was said
+abbrev pub said_one : Chair → Chair
+said_one c = record { still_to_say = tail c.still_to_say } where
+  tail : List Label → List Label
+  tail [] = []
+  tail (l ∷ ls) = ls
+
+abbrev pub chair_map : (Chair → Chair) → Option Chair → Option Chair
+chair_map f None = None
+chair_map f (Some c) = Some (f c)
+
+-- the chair in the actor's hands: serving begins behind the lock of the counter
+abbrev pub chair_after : Platform → Seat → Row → Option Chair
+chair_after p s LockCounter = chair_map (λ c. record { still_to_say = serving_said p s.wave }) s.chair
+chair_after p s Serve = chair_map said_one s.chair
+chair_after p s _ = s.chair
+
+abbrev pub seat_after : Platform → Seat → Row → ℕ → Seat
+seat_after p s r found =
+    record {
+      row = row_after p s r found;
+      visits = visits_after s r found;
+      source = source_after s r found;
+      inside = inside_after s r found;
+      wave = wave_after s r found;
+      blocked = blocked_after s r found;
+      chair = chair_after p s r;
+    }

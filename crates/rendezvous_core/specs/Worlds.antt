@@ -1,0 +1,154 @@
+-- The world, one step of an actor in it, and the replay of a schedule.
+use Rattle.std.specs.Prelude.{ℕ, ◌+◌, ◌≡◌, Bool, true, false, List, [], ◌∷◌, ◌++◌, slice_index_or, slice_get, slice_set, replicate, Option, Some, None, is_none}
+use Rattle.std.specs.List.{list_all}
+use Rattle.sync_words.specs.Access.{applied}
+use Rattle.sync_words.specs.declared.word.WordId.{WordId}
+use Rattle.sync_words.specs.declared.word.WordId.TheVariants as word
+use Rattle.sync_words.specs.declared.access.Applied.{Applied}
+use Rattle.sync_words.specs.declared.access.Applied.TheVariants.{Changed, Same, NotReady}
+use Rattle.sync_words.specs.declared.access.TheConstants.{LOCKED}
+use Rattle.sync_words.specs.declared.event.Event.{Event}
+use Rattle.sync_words.specs.declared.event.Hand.{Hand}
+use Rattle.sync_words.specs.declared.event.Hand.TheVariants.{Nothing, Give, Take}
+use Rattle.sync_words.specs.declared.label.Label.{Label}
+use Rattle.sync_words.specs.declared.label.Label.TheVariants as label
+use Rattle.sync_words.specs.declared.row.Row.{Row}
+use Rattle.sync_words.specs.declared.row.Row.TheVariants.{AwaitSmi, AnnounceBlocked}
+use Rattle.rendezvous_core.specs.declared.stepped.Stepped.{Stepped}
+use Rattle.rendezvous_core.specs.declared.stepped.Stepped.TheVariants as stepped
+use Rattle.rendezvous_core.specs.Platform.{Platform}
+use Rattle.rendezvous_core.specs.Protocol.{Chair, Seat, word_of, access_of, hand_of, label_of, seat_after}
+
+-- The ten kinds of words, what lies on the word `bsp`, and where each actor stands: the processors, then the chipset.
+pub record World : Type 0 where
+  pub counter : ℕ
+  pub bsp : ℕ
+  pub inside : ℕ
+  pub insync : ℕ
+  pub source : ℕ
+  pub except : ℕ
+  pub pend : List ℕ
+  pub present : List ℕ
+  pub run : List ℕ
+  pub busy : List ℕ
+  pub chair : Option Chair
+  pub seats : List Seat
+
+abbrev pub read : World → WordId → ℕ
+read w word.Counter = w.counter
+read w word.Bsp = w.bsp
+read w word.Inside = w.inside
+read w word.Insync = w.insync
+read w word.Source = w.source
+read w word.Except = w.except
+read w (word.Pend i) = slice_index_or w.pend i 0
+read w (word.Present i) = slice_index_or w.present i 0
+read w (word.Run i) = slice_index_or w.run i 0
+read w (word.Busy i) = slice_index_or w.busy i 0
+
+abbrev pub write : World → WordId → ℕ → World
+write w word.Counter v = record w { counter = v }
+write w word.Bsp v = record w { bsp = v }
+write w word.Inside v = record w { inside = v }
+write w word.Insync v = record w { insync = v }
+write w word.Source v = record w { source = v }
+write w word.Except v = record w { except = v }
+write w (word.Pend i) v = record w { pend = slice_set w.pend i v }
+write w (word.Present i) v = record w { present = slice_set w.present i v }
+write w (word.Run i) v = record w { run = slice_set w.run i v }
+write w (word.Busy i) v = record w { busy = slice_set w.busy i v }
+
+-- the actor's next position
+abbrev pub seated : World → ℕ → Seat → World
+seated w me s = record w { seats = slice_set w.seats me s }
+
+-- the chair changes hands: what is taken comes to the actor's new position, what is given lies on the word
+abbrev pub handed : World → ℕ → Seat → Hand → World
+handed w me s Nothing = seated w me s
+handed w me s (Take k) = record (seated w me (record s { chair = w.chair })) { chair = None }
+handed w me s (Give k) = record (seated w me (record s { chair = None })) { chair = s.chair }
+
+abbrev pub event_of : Platform → World → ℕ → Seat → Row → ℕ → Event
+event_of p w me s r found =
+    record { actor = me; word = word_of me r; access = access_of p me s r; found = found; label = label_of p s r found }
+
+-- what comes of the wanted access: a hand moves only where the word changes
+abbrev pub moved : Platform → World → ℕ → Seat → Row → Applied → Stepped × World
+moved p w me s r (NotReady found) = (stepped.Waiting found, w)
+moved p w me s r (Same found) = (stepped.Event (event_of p w me s r found), seated w me (seat_after p s r found))
+moved p w me s r (Changed new found) =
+    (stepped.Event (event_of p w me s r found), handed (write w (word_of me r) new) me (seat_after p s r found) (hand_of p r))
+
+abbrev pub step_at : Platform → World → ℕ → Seat → Option Row → Stepped × World
+step_at p w me s None = (stepped.Off, w)
+step_at p w me s (Some r) = moved p w me s r (applied (read w (word_of me r)) (access_of p me s r))
+
+abbrev pub step_of : Platform → World → ℕ → Option Seat → Stepped × World
+step_of p w me None = (stepped.Off, w)
+step_of p w me (Some s) = step_at p w me s s.row
+
+-- One step of the actor `me`: the access that its row wants, on the word as it stands. Where it isn't ready, or the
+-- actor is off, nothing changes.
+abbrev pub step : Platform → World → ℕ → Stepped × World
+step p w me = step_of p w me (slice_get w.seats me)
+
+-- the events of a schedule, from a world on: an actor that waits or is off adds nothing
+abbrev pub with_event : Stepped → List Event → List Event
+with_event (stepped.Event e) es = e ∷ es
+with_event (stepped.Waiting found) es = es
+with_event stepped.Off es = es
+
+abbrev pub events_from : Platform → World → List ℕ → List Event
+events_from p w [] = []
+events_from p w (a ∷ rest) = with_event (step p w a).0 (events_from p (step p w a).1 rest)
+
+-- the world after a schedule
+abbrev pub world_after : Platform → World → List ℕ → World
+world_after p w [] = w
+world_after p w (a ∷ rest) = world_after p (step p w a).1 rest
+
+-- where an actor begins
+abbrev pub first_seat : Row → ℕ → Seat
+first_seat r w = record { row = Some r; visits = 0; source = 0; inside = 0; wave = w; blocked = 0; chair = None }
+
+-- the world before any event: the chair lies on the word `bsp`
+abbrev pub start : Platform → World
+start p =
+    record {
+      counter = 0;
+      bsp = LOCKED;
+      inside = 0;
+      insync = 0;
+      source = 0;
+      except = 0;
+      pend = replicate p.processors 0;
+      present = replicate p.processors 0;
+      run = replicate p.processors 0;
+      busy = replicate p.processors 0;
+      chair = Some (record { still_to_say = [] });
+      seats = replicate p.processors (first_seat AwaitSmi 0) ++ first_seat AnnounceBlocked 1 ∷ [];
+    }
+
+-- The replay of a schedule: its events ..
+abbrev pub replay_events : Platform → List ℕ → List Event
+replay_events p schedule = events_from p (start p) schedule
+
+-- .. and the world that it leaves
+abbrev pub replay_world : Platform → List ℕ → World
+replay_world p schedule = world_after p (start p) schedule
+
+abbrev pub is_off : Seat → Bool
+is_off s = is_none s.row
+
+-- every actor is off
+abbrev pub is_complete : World → Bool
+is_complete w = list_all is_off w.seats
+
+-- the actors and labels of the events, without the silent ones
+abbrev pub with_label : ℕ → Label → List (ℕ × Label) → List (ℕ × Label)
+with_label a label.Silent ls = ls
+with_label a l ls = (a, l) ∷ ls
+
+abbrev pub labels : List Event → List (ℕ × Label)
+labels [] = []
+labels (e ∷ es) = with_label e.actor e.label (labels es)

@@ -1,0 +1,26 @@
+/// Where a processor is, as the rendezvous machine sees it.
+#[derive(Clone, Copy, Debug, PartialEq, Eq)]
+pub enum Phase {
+    /// Not in system management mode.
+    Out,
+    /// It has entered.
+    In,
+    /// It was counted in.
+    Counted,
+    /// It has reported to the boot processor.
+    Here,
+    /// It has nothing more to do with the session.
+    Gone,
+    /// It takes no more interrupts.
+    Off,
+}
+
+/// How a processor meets the interrupt of a wave.
+#[derive(Clone, Copy, Debug, PartialEq, Eq)]
+pub enum Arrival {
+    Prompt,
+    /// It waits for an IPI.
+    Delayed,
+    Blocked,
+    Absent,
+}
