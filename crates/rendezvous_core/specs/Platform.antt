@@ -1,7 +1,8 @@
 -- The platform: how many processors there are, what comes, and how long each part may take.
-use Rattle.std.specs.Prelude.{ℕ, zero, suc, ◌-◌, Bool, true, false, List, [], length, Option, Some, None, slice_get, slice_index_or}
+use Rattle.std.specs.Prelude.{ℕ, zero, suc, ◌-◌, Bool, true, false, List, [], ◌∷◌, length, Option, Some, None, slice_get, slice_index_or}
 use Rattle.std.specs.List.{count_by}
 use Rattle.smm_base.specs.declared.kinds.HandlerType.{HandlerType}
+use Rattle.smm_base.specs.declared.kinds.HandlerType.TheVariants.{Root}
 use Rattle.rendezvous_core.specs.declared.phase.Arrival.{Arrival}
 use Rattle.rendezvous_core.specs.declared.phase.Arrival.TheVariants.{Prompt, Delayed, Blocked, Absent}
 
@@ -52,3 +53,11 @@ signal_at w j = signal_of (slice_index_or (status_in w) j Absent)
 abbrev pub manage_in : Option Wave → List HandlerType
 manage_in None = []
 manage_in (Some w) = w.manage
+
+-- a platform of one processor
+abbrev pub with_one : ℕ → ℕ → ℕ → ℕ → List Wave → Platform
+with_one t1 t2 visits ops waves = record { processors = 1; t1 = t1; t2 = t2; visits = visits; ops = ops; waves = waves }
+
+-- the one platform that is built: one prompt processor, one wave, and a walk over the root handlers
+abbrev pub the_platform : Platform
+the_platform = with_one 8 8 3 64 (record { status = Prompt ∷ []; manage = Root ∷ [] } ∷ [])

@@ -1,8 +1,10 @@
 // The core of the rendezvous: all actors over the shared words, one step at a time.
 #![tactic(auto)]
 
+mod law;
 mod phase;
 mod stepped;
 
+pub use law::every_schedule;
 pub use phase::{Arrival, Phase};
 pub use stepped::Stepped;

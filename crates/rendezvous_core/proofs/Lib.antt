@@ -1,0 +1,6 @@
+pub mod Shape
+pub mod Said
+pub mod Example
+pub mod Processor
+pub mod Chipset
+pub mod Runs
