@@ -143,16 +143,18 @@ chipset_at c x = record { row = c; visits = 0; source = 0; inside = 0; wave = x.
 abbrev pub world_at : Option Row → Option Row → Shape → World
 world_at r c x =
     record {
-      counter = counter_of r;
-      bsp = bsp_of r;
-      inside = inside_of r;
-      insync = insync_of r;
-      source = x.source;
-      except = x.except;
-      pend = x.pend ∷ [];
-      present = 0 ∷ [];
-      run = 0 ∷ [];
-      busy = 0 ∷ [];
+      words = record {
+        counter = counter_of r;
+        bsp = bsp_of r;
+        inside = inside_of r;
+        insync = insync_of r;
+        source = x.source;
+        except = x.except;
+        pend = x.pend ∷ [];
+        present = 0 ∷ [];
+        run = 0 ∷ [];
+        busy = 0 ∷ [];
+      };
       chair = lain_chair r (chair_at x);
       seats = processor_at r x ∷ chipset_at c x ∷ [];
     }

@@ -19,8 +19,8 @@ use Rattle.rendezvous_core.specs.declared.stepped.Stepped.TheVariants as stepped
 use Rattle.rendezvous_core.specs.Platform.{Platform}
 use Rattle.rendezvous_core.specs.Protocol.{Chair, Seat, word_of, access_of, hand_of, label_of, seat_after}
 
--- The ten kinds of words, what lies on the word `bsp`, and where each actor stands: the processors, then the chipset.
-pub record World : Type 0 where
+-- the ten kinds of words, the last four with one word for each processor
+pub record Words : Type 0 where
   pub counter : ℕ
   pub bsp : ℕ
   pub inside : ℕ
@@ -31,10 +31,8 @@ pub record World : Type 0 where
   pub present : List ℕ
   pub run : List ℕ
   pub busy : List ℕ
-  pub chair : Option Chair
-  pub seats : List Seat
 
-abbrev pub read : World → WordId → ℕ
+abbrev pub read : Words → WordId → ℕ
 read w word.Counter = w.counter
 read w word.Bsp = w.bsp
 read w word.Inside = w.inside
@@ -46,7 +44,7 @@ read w (word.Present i) = slice_index_or w.present i 0
 read w (word.Run i) = slice_index_or w.run i 0
 read w (word.Busy i) = slice_index_or w.busy i 0
 
-abbrev pub write : World → WordId → ℕ → World
+abbrev pub write : Words → WordId → ℕ → Words
 write w word.Counter v = record w { counter = v }
 write w word.Bsp v = record w { bsp = v }
 write w word.Inside v = record w { inside = v }
@@ -57,6 +55,28 @@ write w (word.Pend i) v = record w { pend = slice_set w.pend i v }
 write w (word.Present i) v = record w { present = slice_set w.present i v }
 write w (word.Run i) v = record w { run = slice_set w.run i v }
 write w (word.Busy i) v = record w { busy = slice_set w.busy i v }
+
+-- the words as they are before any event
+abbrev pub first_words : ℕ → Words
+first_words n =
+    record {
+      counter = 0;
+      bsp = LOCKED;
+      inside = 0;
+      insync = 0;
+      source = 0;
+      except = 0;
+      pend = replicate n 0;
+      present = replicate n 0;
+      run = replicate n 0;
+      busy = replicate n 0;
+    }
+
+-- The words, what lies on the word `bsp`, and where each actor stands: the processors, then the chipset.
+pub record World : Type 0 where
+  pub words : Words
+  pub chair : Option Chair
+  pub seats : List Seat
 
 -- the actor's next position
 abbrev pub seated : World → ℕ → Seat → World
@@ -77,11 +97,11 @@ abbrev pub moved : Platform → World → ℕ → Seat → Row → Applied → S
 moved p w me s r (NotReady found) = (stepped.Waiting found, w)
 moved p w me s r (Same found) = (stepped.Event (event_of p w me s r found), seated w me (seat_after p s r found))
 moved p w me s r (Changed new found) =
-    (stepped.Event (event_of p w me s r found), handed (write w (word_of me r) new) me (seat_after p s r found) (hand_of p r))
+    (stepped.Event (event_of p w me s r found), handed (record w { words = write w.words (word_of me r) new }) me (seat_after p s r found) (hand_of p r))
 
 abbrev pub step_at : Platform → World → ℕ → Seat → Option Row → Stepped × World
 step_at p w me s None = (stepped.Off, w)
-step_at p w me s (Some r) = moved p w me s r (applied (read w (word_of me r)) (access_of p me s r))
+step_at p w me s (Some r) = moved p w me s r (applied (read w.words (word_of me r)) (access_of p me s r))
 
 abbrev pub step_of : Platform → World → ℕ → Option Seat → Stepped × World
 step_of p w me None = (stepped.Off, w)
@@ -115,16 +135,7 @@ first_seat r w = record { row = Some r; visits = 0; source = 0; inside = 0; wave
 abbrev pub start : Platform → World
 start p =
     record {
-      counter = 0;
-      bsp = LOCKED;
-      inside = 0;
-      insync = 0;
-      source = 0;
-      except = 0;
-      pend = replicate p.processors 0;
-      present = replicate p.processors 0;
-      run = replicate p.processors 0;
-      busy = replicate p.processors 0;
+      words = first_words p.processors;
       chair = Some (record { still_to_say = [] });
       seats = replicate p.processors (first_seat AwaitSmi 0) ++ first_seat AnnounceBlocked 1 ∷ [];
     }
