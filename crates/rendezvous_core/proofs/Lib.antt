@@ -4,3 +4,4 @@ pub mod Example
 pub mod Processor
 pub mod Chipset
 pub mod Runs
+pub mod WordMapLemmas

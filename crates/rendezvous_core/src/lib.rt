@@ -4,6 +4,7 @@
 mod law;
 mod phase;
 mod stepped;
+mod words;
 
 pub use law::every_schedule;
 pub use phase::{Arrival, Phase};
