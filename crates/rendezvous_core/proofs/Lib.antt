@@ -5,3 +5,4 @@ pub mod Processor
 pub mod Chipset
 pub mod Runs
 pub mod WordMapLemmas
+pub mod ChairLemmas

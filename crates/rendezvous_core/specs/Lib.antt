@@ -1,7 +1,9 @@
 pub mod Answer
+pub mod ChairInside
 pub mod Machine
 pub mod Platform
 pub mod Protocol
+pub mod SeatInside
 pub mod Serving
 pub mod WordMap
 pub mod Worlds

@@ -1,7 +1,8 @@
 -- The protocol as a table: for each row the word that is wanted, the access, the hand, and by the number found the
 -- label, the next row and what the actor keeps. The rows are those that one processor and the chipset meet. On such
 -- a platform each loop over other processors is empty, and so its rows are passed over.
-use Rattle.std.specs.Prelude.{ℕ, zero, suc, ◌+◌, ◌==◌, nat_le, nat_lt, nat_eq, Bool, true, false, ◌&&◌, if◌then◌else◌, List, [], ◌∷◌, length, Option, Some, None, is_some}
+use Rattle.std.specs.Prelude.{ℕ, zero, suc, ◌+◌, ◌==◌, nat_le, nat_lt, nat_eq, Bool, true, false, ◌&&◌, if◌then◌else◌, List, [], ◌∷◌, length, Option, Some, None, drop}
+use Rattle.std.specs.Option.{option_map}
 use Rattle.smm_base.specs.declared.kinds.After.TheVariants.{Next}
 use Rattle.sync_words.specs.declared.word.WordId.{WordId}
 use Rattle.sync_words.specs.declared.word.WordId.TheVariants as word
@@ -108,12 +109,13 @@ look_label false true round found = label.Expire round
 look_label false false round found = label.Silent
 
 -- what a session says next
+abbrev pub first_said : List Label → Label
+first_said [] = label.Silent
+first_said (l ∷ ls) = l
+
 abbrev pub next_said : Option Chair → Label
 next_said None = label.Silent
-next_said (Some c) = first_said c.still_to_say where
-  first_said : List Label → Label
-  first_said [] = label.Silent
-  first_said (l ∷ ls) = l
+next_said (Some c) = first_said c.still_to_say
 
 -- what the event says
 abbrev pub label_of : Platform → Seat → Row → ℕ → Label
@@ -163,14 +165,15 @@ each_processor p at j after = if nat_lt j p.processors then Some (at j) else aft
 abbrev pub to_wave : Platform → ℕ → Row
 to_wave p w = if nat_le w (length p.waves) then AnnounceBlocked else RaiseOff 0
 
--- serving goes on while there is something to say
+-- serving goes on while there is something to say behind the next label
+abbrev pub row_by_rest : List Label → Row
+row_by_rest [] = LeaveInside
+row_by_rest (l ∷ []) = LeaveInside
+row_by_rest (l ∷ m ∷ ls) = Serve
+
 abbrev pub serving_row : Option Chair → Row
 serving_row None = LeaveInside
-serving_row (Some c) = more_to_say c.still_to_say where
-  more_to_say : List Label → Row
-  more_to_say [] = LeaveInside
-  more_to_say (l ∷ []) = LeaveInside
-  more_to_say (l ∷ m ∷ ls) = Serve
+serving_row (Some c) = row_by_rest c.still_to_say
 
 -- the row after the event, or none where the actor is off then
 abbrev pub row_after : Platform → Seat → Row → ℕ → Option Row
@@ -225,21 +228,17 @@ abbrev pub blocked_after : Seat → Row → ℕ → ℕ
 blocked_after s LookAtExcept found = found
 blocked_after s _ found = s.blocked
 
--- the chair after one label more was said
-abbrev pub said_one : Chair → Chair
-said_one c = record { still_to_say = tail c.still_to_say } where
-  tail : List Label → List Label
-  tail [] = []
-  tail (l ∷ ls) = ls
+-- the chair as a session's serving begins, and after one label more was said
+abbrev pub begun : Platform → ℕ → Chair
+begun p wave = record { still_to_say = serving_said p wave }
 
-abbrev pub chair_map : (Chair → Chair) → Option Chair → Option Chair
-chair_map f None = None
-chair_map f (Some c) = Some (f c)
+abbrev pub said_one : Chair → Chair
+said_one c = record { still_to_say = drop 1 c.still_to_say }
 
 -- the chair in the actor's hands: serving begins behind the lock of the counter
 abbrev pub chair_after : Platform → Seat → Row → Option Chair
-chair_after p s LockCounter = chair_map (λ c. record { still_to_say = serving_said p s.wave }) s.chair
-chair_after p s Serve = chair_map said_one s.chair
+chair_after p s LockCounter = option_map (λ _. begun p s.wave) s.chair
+chair_after p s Serve = option_map said_one s.chair
 chair_after p s _ = s.chair
 
 abbrev pub seat_after : Platform → Seat → Row → ℕ → Seat

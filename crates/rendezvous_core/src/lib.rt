@@ -1,6 +1,7 @@
 // The core of the rendezvous: all actors over the shared words, one step at a time.
 #![tactic(auto)]
 
+mod chair;
 mod law;
 mod phase;
 mod stepped;
