@@ -4,6 +4,7 @@
 mod chair;
 mod law;
 mod phase;
+mod seat;
 mod stepped;
 mod words;
 
