@@ -236,10 +236,10 @@ abbrev pub said_one : Chair → Chair
 said_one c = record { still_to_say = drop 1 c.still_to_say }
 
 -- the chair in the actor's hands: serving begins behind the lock of the counter
-abbrev pub chair_after : Platform → Seat → Row → Option Chair
-chair_after p s LockCounter = option_map (λ _. begun p s.wave) s.chair
-chair_after p s Serve = option_map said_one s.chair
-chair_after p s _ = s.chair
+abbrev pub chair_after : Platform → ℕ → Option Chair → Row → Option Chair
+chair_after p wave chair LockCounter = option_map (λ _. begun p wave) chair
+chair_after p wave chair Serve = option_map said_one chair
+chair_after p wave chair _ = chair
 
 abbrev pub seat_after : Platform → Seat → Row → ℕ → Seat
 seat_after p s r found =
@@ -250,5 +250,5 @@ seat_after p s r found =
       inside = inside_after s r found;
       wave = wave_after s r found;
       blocked = blocked_after s r found;
-      chair = chair_after p s r;
+      chair = chair_after p s.wave s.chair r;
     }

@@ -2,7 +2,7 @@ ghost use Rattle.std.specs.Prelude.{◌≡◌, ◌+◌, ◌==◌, ◌<◌, ◌�
 ghost use Rattle.sync_words.specs.Access.{IsWithin};
 ghost use Rattle.rendezvous_core.specs.Platform.{the_platform, signal_at, wave_at};
 ghost use Rattle.rendezvous_core.specs.Worlds.{first_seat};
-ghost use Rattle.rendezvous_core.specs.Protocol.{word_of, access_of, hand_of, label_of, row_after, seat_after, look_label, look_row, to_await, next_said, serving_row, are_all_there};
+ghost use Rattle.rendezvous_core.specs.Protocol.{word_of, access_of, hand_of, label_of, row_after, seat_after, look_label, look_row, to_await, next_said, serving_row, are_all_there, visits_after, source_after, inside_after, wave_after, blocked_after, chair_after};
 ghost use Rattle.rendezvous_core.specs.SeatInside.{IsRow, IsRowOf, IsSeat};
 ghost use Rattle.rendezvous_core.specs.WordMap.{IsWordOf};
 
@@ -95,6 +95,17 @@ fn row_after_look(all_there: bool, last: bool, again: Row, after: Row) -> Row
         (true, _) => Row::MarkInsync,
         (false, true) => after,
         (false, false) => again,
+    }
+}
+
+/// The chair after the event at a row: serving begins behind the lock of the counter.
+fn next_chair(chair: Option<Chair>, wave: u32, row: Row) -> Option<Chair>
+    ensures { result ≡ chair_after the_platform wave chair row }
+{
+    match (chair, row) {
+        (Some(_), Row::LockCounter) => Some(Chair::begin(wave)),
+        (Some(chair), Row::Serve) => Some(chair.advance()),
+        (chair, _) => chair,
     }
 }
 
@@ -265,7 +276,8 @@ impl Seat {
     pub fn next_row(&self, row: Row, found: u32) -> Option<Row>
         requires row_in { IsRow self.now.visits self.now.wave (Some row) }
         requires found_fits { found ≤ LOCKED }
-        ensures { result ≡ row_after the_platform self.now row found }
+        ensures value { result ≡ row_after the_platform self.now row found }
+        ensures within { IsRow (visits_after self.now row found) (wave_after self.now row found) result }
     {
         let next = match row {
             Row::AwaitSmi if found == 1 => Row::LookAtSource,
@@ -308,5 +320,51 @@ impl Seat {
             Row::AwaitServed => Row::RaiseOff(0),
         };
         Some(next)
+    }
+
+    fn visits_after(&self, row: Row, found: u32) -> u32
+        requires row_in { IsRow self.now.visits self.now.wave (Some row) }
+        ensures value { result ≡ visits_after self.now row found }
+        ensures fits { result ≤ VISITS }
+    {
+        match row {
+            Row::AwaitSmi if found == 1 => self.visits + 1,
+            _ => self.visits,
+        }
+    }
+
+    fn wave_after(&self, row: Row, found: u32) -> u32
+        requires row_in { IsRow self.now.visits self.now.wave (Some row) }
+        requires found_fits { found ≤ LOCKED }
+        ensures value { result ≡ wave_after self.now row found }
+        ensures fits { result ≤ LOCKED }
+    {
+        match row {
+            Row::TakeSource => found,
+            Row::AwaitServed => self.wave + 1,
+            _ => self.wave,
+        }
+    }
+
+    /// The seat after the event at its row.
+    pub fn advance(&mut self, row: Row, found: u32)
+        requires row_is { self.old.row ≡ Some row }
+        requires found_fits { found ≤ LOCKED }
+        ensures { self.new ≡ seat_after the_platform self.old row found }
+    {
+        let next = self.next_row(row, found);
+        let visits = self.visits_after(row, found);
+        let wave = self.wave_after(row, found);
+        let chair = next_chair(self.chair.take(), self.wave, row);
+        match row {
+            Row::LookAtSource => self.source = found,
+            Row::LookAtInside => self.inside = found,
+            Row::LookAtExcept => self.blocked = found,
+            _ => {}
+        }
+        self.visits = visits;
+        self.wave = wave;
+        self.chair = chair;
+        self.row = next;
     }
 }
