@@ -78,37 +78,59 @@ pub record World : Type 0 where
   pub chair : Option Chair
   pub seats : List Seat
 
--- the actor's next position
-abbrev pub seated : World → ℕ → Seat → World
-seated w me s = record w { seats = slice_set w.seats me s }
+-- what one turn of an actor comes to: what was made of it, the words, what lies on the word `bsp`, and the actor's seat
+pub record Turn : Type 0 where
+  pub stepped : Stepped
+  pub words : Words
+  pub chair : Option Chair
+  pub seat : Seat
 
--- the chair changes hands: what is taken comes to the actor's new position, what is given lies on the word
-abbrev pub handed : World → ℕ → Seat → Hand → World
-handed w me s Nothing = seated w me s
-handed w me s (Take k) = record (seated w me (record s { chair = w.chair })) { chair = None }
-handed w me s (Give k) = record (seated w me (record s { chair = None })) { chair = s.chair }
-
-abbrev pub event_of : Platform → World → ℕ → Seat → Row → ℕ → Event
-event_of p w me s r found =
+-- the event of an access that found this number
+abbrev pub event_of : Platform → ℕ → Seat → Row → ℕ → Event
+event_of p me s r found =
     record { actor = me; word = word_of me r; access = access_of p me s r; found = found; label = label_of p s r found }
 
--- what comes of the wanted access: a hand moves only where the word changes
-abbrev pub moved : Platform → World → ℕ → Seat → Row → Applied → Stepped × World
-moved p w me s r (NotReady found) = (stepped.Waiting found, w)
-moved p w me s r (Same found) = (stepped.Event (event_of p w me s r found), seated w me (seat_after p s r found))
-moved p w me s r (Changed new found) =
-    (stepped.Event (event_of p w me s r found), handed (record w { words = write w.words (word_of me r) new }) me (seat_after p s r found) (hand_of p r))
+-- the chair changes hands: what is taken comes to the seat, what is given lies on the word
+abbrev pub lying_after : Hand → Option Chair → Seat → Option Chair
+lying_after Nothing chair s = chair
+lying_after (Take k) chair s = None
+lying_after (Give k) chair s = s.chair
 
-abbrev pub step_at : Platform → World → ℕ → Seat → Option Row → Stepped × World
-step_at p w me s None = (stepped.Off, w)
-step_at p w me s (Some r) = moved p w me s r (applied (read w.words (word_of me r)) (access_of p me s r))
+abbrev pub holding_after : Hand → Option Chair → Seat → Seat
+holding_after Nothing chair s = s
+holding_after (Take k) chair s = record s { chair = chair }
+holding_after (Give k) chair s = record s { chair = None }
 
+-- what comes of the wanted access: where it isn't ready nothing changes, and a hand moves only where the word changes
+abbrev pub moved : Platform → Words → Option Chair → ℕ → Seat → Row → Applied → Turn
+moved p words chair me s r (NotReady found) = record { stepped = stepped.Waiting found; words = words; chair = chair; seat = s }
+moved p words chair me s r (Same found) =
+    record { stepped = stepped.Event (event_of p me s r found); words = words; chair = chair; seat = seat_after p s r found }
+moved p words chair me s r (Changed new found) =
+    record {
+      stepped = stepped.Event (event_of p me s r found);
+      words = write words (word_of me r) new;
+      chair = lying_after (hand_of p r) chair (seat_after p s r found);
+      seat = holding_after (hand_of p r) chair (seat_after p s r found);
+    }
+
+-- The turn of the actor `me`: the access that its row wants, on the word as it stands. An actor that is off wants none.
+abbrev pub turn_at : Platform → Words → Option Chair → ℕ → Seat → Option Row → Turn
+turn_at p words chair me s None = record { stepped = stepped.Off; words = words; chair = chair; seat = s }
+turn_at p words chair me s (Some r) = moved p words chair me s r (applied (read words (word_of me r)) (access_of p me s r))
+
+abbrev pub turn : Platform → Words → Option Chair → ℕ → Seat → Turn
+turn p words chair me s = turn_at p words chair me s s.row
+
+-- the world after a turn
+abbrev pub turned : World → ℕ → Turn → World
+turned w me t = record { words = t.words; chair = t.chair; seats = slice_set w.seats me t.seat }
+
+-- One step of an actor: its turn, where there is such an actor.
 abbrev pub step_of : Platform → World → ℕ → Option Seat → Stepped × World
 step_of p w me None = (stepped.Off, w)
-step_of p w me (Some s) = step_at p w me s s.row
+step_of p w me (Some s) = ((turn p w.words w.chair me s).stepped, turned w me (turn p w.words w.chair me s))
 
--- One step of the actor `me`: the access that its row wants, on the word as it stands. Where it isn't ready, or the
--- actor is off, nothing changes.
 abbrev pub step : Platform → World → ℕ → Stepped × World
 step p w me = step_of p w me (slice_get w.seats me)
 
