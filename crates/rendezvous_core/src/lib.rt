@@ -6,6 +6,7 @@ mod law;
 mod phase;
 mod seat;
 mod stepped;
+mod turn;
 mod words;
 
 pub use law::every_schedule;

@@ -127,6 +127,21 @@ impl Seat {
         }
     }
 
+    /// The chair comes to the seat; one that it held is gone.
+    pub fn set_chair(&mut self, chair: Option<Chair>)
+        ensures { self.new ≡ record self.old { chair = chair } }
+    {
+        self.chair = chair;
+    }
+
+    /// The chair leaves the seat.
+    pub fn take_chair(&mut self) -> Option<Chair>
+        ensures chair { result ≡ self.old.chair }
+        ensures seat { self.new ≡ record self.old { chair = None } }
+    {
+        self.chair.take()
+    }
+
     /// Where the actor stands, or `None` once it is off.
     pub fn row(&self) -> Option<Row>
         ensures row { result ≡ self.now.row }
