@@ -6,3 +6,4 @@ pub mod Chipset
 pub mod Runs
 pub mod WordMapLemmas
 pub mod ChairLemmas
+pub mod SeatLemmas

@@ -6,4 +6,5 @@ pub mod Protocol
 pub mod SeatInside
 pub mod Serving
 pub mod WordMap
+pub mod WorldInside
 pub mod Worlds

@@ -39,3 +39,14 @@ IsRowOf me ClearSignal = me < 1
 IsRowOf me (RaiseWave j) = j < 1
 IsRowOf me (RaiseOff j) = j < 1
 IsRowOf me _ = Unit {0}
+
+-- the rows of the chipset
+abbrev pub IsChipsetRow : Option Row → Type 0
+IsChipsetRow None = Unit {0}
+IsChipsetRow (Some AnnounceBlocked) = Unit {0}
+IsChipsetRow (Some AnnounceWave) = Unit {0}
+IsChipsetRow (Some (RaiseWave j)) = Unit {0}
+IsChipsetRow (Some (WatchSource looks)) = Unit {0}
+IsChipsetRow (Some AwaitServed) = Unit {0}
+IsChipsetRow (Some (RaiseOff j)) = Unit {0}
+IsChipsetRow (Some _) = ⊥

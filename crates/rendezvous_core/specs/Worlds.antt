@@ -162,6 +162,12 @@ start p =
       seats = replicate p.processors (first_seat AwaitSmi 0) ++ first_seat AnnounceBlocked 1 ∷ [];
     }
 
+-- a replay as far as it has come, with room for so many events
+pub record Replay : Type 0 where
+  pub world : World
+  pub events : List Event
+  pub room : ℕ
+
 -- The replay of a schedule: its events ..
 abbrev pub replay_events : Platform → List ℕ → List Event
 replay_events p schedule = events_from p (start p) schedule

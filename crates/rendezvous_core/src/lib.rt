@@ -8,7 +8,9 @@ mod seat;
 mod stepped;
 mod turn;
 mod words;
+mod world;
 
 pub use law::every_schedule;
 pub use phase::{Arrival, Phase};
 pub use stepped::Stepped;
+pub use world::World;

@@ -1,6 +1,6 @@
-ghost use Rattle.std.specs.Prelude.{◌≡◌, ◌≤◌, IfSome};
+ghost use Rattle.std.specs.Prelude.{◌≡◌, ◌≤◌};
 ghost use Rattle.rendezvous_core.specs.Platform.{the_platform};
-ghost use Rattle.rendezvous_core.specs.SeatInside.{IsRowOf};
+ghost use Rattle.rendezvous_core.specs.SeatInside.{IsChipsetRow};
 ghost use Rattle.rendezvous_core.specs.Worlds.{turn, lying_after, holding_after};
 
 use crate::chair::Chair;
@@ -24,7 +24,7 @@ fn hand_over(hand: Hand, lying: &mut Option<Chair>, seat: &mut Seat)
 /// One turn of the actor `me`. Where its access isn't ready, or it is off, nothing changes.
 pub fn take_turn(words: &mut Words, lying: &mut Option<Chair>, me: u16, seat: &mut Seat) -> Stepped
     requires me_in { me ≤ PROCESSORS }
-    requires row_of { IfSome seat.old.row (IsRowOf me) }
+    requires chipset { me ≡ PROCESSORS → IsChipsetRow seat.old.row }
     ensures stepped { result ≡ (turn the_platform words.old lying.old me seat.old).stepped }
     ensures words { words.new ≡ (turn the_platform words.old lying.old me seat.old).words }
     ensures chair { lying.new ≡ (turn the_platform words.old lying.old me seat.old).chair }
