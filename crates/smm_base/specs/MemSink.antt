@@ -6,6 +6,14 @@ use Rattle.smm_base.specs.declared.mem_sink.MemSink.{MemSink}
 abbrev pub bytes_of : MemSink → List ℕ
 bytes_of sink = sink.taken.items
 
+-- the numbers of the calls that fail
+abbrev pub failing_of : MemSink → List ℕ
+failing_of sink = sink.failing.items
+
+-- how many writes there were
+abbrev pub calls_of : MemSink → ℕ
+calls_of sink = sink.calls
+
 -- how many writes have failed
 abbrev pub faults_of : MemSink → ℕ
 faults_of sink = sink.fault_count
@@ -14,6 +22,6 @@ faults_of sink = sink.fault_count
 abbrev pub most_of : MemSink → ℕ
 most_of sink = sink.most
 
--- the bytes, the count of faults and the most for a call stay as they were
+-- the bytes, the count of faults, the most for a call and the numbers of the calls that fail stay as they were
 abbrev pub KeepsAll : MemSink → MemSink → Type 0
-KeepsAll before after = (bytes_of after ≡ bytes_of before) × (faults_of after ≡ faults_of before) × (most_of after ≡ most_of before)
+KeepsAll before after = (bytes_of after ≡ bytes_of before) × (faults_of after ≡ faults_of before) × (most_of after ≡ most_of before) × (failing_of after ≡ failing_of before)

@@ -8,6 +8,14 @@ use Rattle.smm_base.specs.declared.mem_store.MemStore.{MemStore}
 abbrev pub file_of : MemStore → List ℕ → Option (List ℕ)
 file_of store name = option_map (λ content. content.items) (get_by_text store.contents name)
 
+-- the numbers of the calls that fail
+abbrev pub failing_of : MemStore → List ℕ
+failing_of store = store.failing.items
+
+-- how many loads and saves there were
+abbrev pub calls_of : MemStore → ℕ
+calls_of store = store.calls
+
 -- how many loads have failed
 abbrev pub failed_loads_of : MemStore → ℕ
 failed_loads_of store = store.load_faults
@@ -16,7 +24,7 @@ failed_loads_of store = store.load_faults
 abbrev pub failed_saves_of : MemStore → ℕ
 failed_saves_of store = store.save_faults
 
--- the files stay as they were
+-- all files stay as they were
 abbrev pub KeepsFiles : MemStore → MemStore → Type 0
 KeepsFiles before after = after.contents ≡ before.contents
 

@@ -1,4 +1,5 @@
-ghost use Rattle.std.specs.Prelude.{◌≡◌, ℕ, ◌≤◌, [], IfOk, IsOk};
+ghost use Rattle.std.specs.Prelude.{◌≡◌, ◌==◌, ◌+◌, ◌-◌, ◌^◌, ◌≤◌, [], IfOk, IsOk, min};
+ghost use Rattle.std.specs.List.{list_any};
 
 use crate::{NoMemory, Sink, WriteError};
 use std::alloc::Global;
@@ -15,7 +16,7 @@ pub struct MemSink {
 }
 
 impl MemSink {
-    ghost use Rattle.smm_base.specs.MemSink.{bytes_of, faults_of, most_of, KeepsAll};
+    ghost use Rattle.smm_base.specs.MemSink.{bytes_of, failing_of, calls_of, faults_of, most_of, KeepsAll};
 
     /// A sink without bytes, which takes at most `most` bytes a call. The calls with the numbers in
     /// `fails` fail, the first call being 1.
@@ -24,6 +25,8 @@ impl MemSink {
         ensures made { IsOk result }
         ensures empty { IfOk result (λ sink. bytes_of sink ≡ []) }
         ensures most { IfOk result (λ sink. most_of sink ≡ most) }
+        ensures numbers { IfOk result (λ sink. failing_of sink ≡ fails.items) }
+        ensures no_calls { IfOk result (λ sink. calls_of sink ≡ 0) }
         ensures no_faults { IfOk result (λ sink. faults_of sink ≡ 0) }
     {
         Ok(MemSink {
@@ -44,7 +47,9 @@ impl MemSink {
 
     // Counts a call, and says whether it is to fail.
     fn next_call_fails(&mut self) -> bool
-        ensures { KeepsAll self.old self.new }
+        ensures counted { calls_of self.new ≡ min (calls_of self.old + 1) (2 ^ 64 - 1) }
+        ensures listed { result ≡ list_any (λ number. number == calls_of self.new) (failing_of self.old) }
+        ensures rest_stays { KeepsAll self.old self.new }
     {
         self.calls = self.calls.saturating_add(1);
         self.failing.contains(&self.calls)

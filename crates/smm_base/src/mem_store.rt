@@ -1,5 +1,5 @@
-ghost use Rattle.std.specs.Prelude.{◌≡◌, ◌≢◌, ℕ, [], List, None, Option, IfOk, IsOk, OnErr, OnOk, option_copied};
-ghost use Rattle.std.specs.BTreeMap.{IsUnchanged};
+ghost use Rattle.std.specs.Prelude.{◌≡◌, ◌==◌, ◌≢◌, ℕ, ◌+◌, ◌-◌, ◌^◌, [], List, None, Option, IfOk, IsOk, OnErr, OnOk, min, option_copied};
+ghost use Rattle.std.specs.List.{list_any};
 
 use crate::{LoadError, NoMemory, SaveError, Store};
 use std::alloc::Global;
@@ -17,12 +17,14 @@ pub struct MemStore {
 }
 
 impl MemStore {
-    ghost use Rattle.smm_base.specs.MemStore.{file_of, KeepsFiles, failed_loads_of, failed_saves_of, KeepsCounts};
+    ghost use Rattle.smm_base.specs.MemStore.{file_of, failing_of, calls_of, KeepsFiles, failed_loads_of, failed_saves_of, KeepsCounts};
 
     /// A store without files, whose calls don't fail.
     pub fn new(alloc: Global) -> Result<Self, NoMemory>
         ensures made { IsOk result }
         ensures empty { IfOk result (λ store. (name : List ℕ) → file_of store name ≡ None) }
+        ensures no_calls { IfOk result (λ store. calls_of store ≡ 0) }
+        ensures none_fails { IfOk result (λ store. failing_of store ≡ []) }
         ensures no_failed_loads { IfOk result (λ store. failed_loads_of store ≡ 0) }
         ensures no_failed_saves { IfOk result (λ store. failed_saves_of store ≡ 0) }
     {
@@ -37,6 +39,10 @@ impl MemStore {
     }
 
     /// Puts a content under a name, in the place of what it held. This counts as no call.
+    ///
+    /// # Errors
+    ///
+    /// `NoMemory` for want of memory: then all files stay as they were.
     pub fn put(&mut self, name: &str, bytes: &[u8]) -> Result<(), NoMemory>
         ensures held { OnOk result (file_of self.new name.now ≡ Option.Some bytes.now) }
         ensures others_stay { (other : List ℕ) → other ≢ name.now → file_of self.new other ≡ file_of self.old other }
@@ -52,6 +58,8 @@ impl MemStore {
     /// Lets the calls with these numbers fail. Loads and saves are counted together, from 1 at the
     /// store's first call; numbers that were given before count no longer.
     pub fn fail_at(&mut self, calls: Vec<u64>)
+        ensures numbers { failing_of self.new ≡ calls.items }
+        ensures calls_stay { calls_of self.new ≡ calls_of self.old }
         ensures files_stay { file_of self.new ≡ file_of self.old }
         ensures counts_stay { KeepsCounts self.old self.new }
     {
@@ -68,6 +76,9 @@ impl MemStore {
 
     // Counts a call, and says whether it is to fail.
     fn next_call_fails(&mut self) -> bool
+        ensures counted { calls_of self.new ≡ min (calls_of self.old + 1) (2 ^ 64 - 1) }
+        ensures listed { result ≡ list_any (λ number. number == calls_of self.new) (failing_of self.old) }
+        ensures numbers_stay { failing_of self.new ≡ failing_of self.old }
         ensures files_stay { KeepsFiles self.old self.new }
         ensures counts_stay { KeepsCounts self.old self.new }
     {

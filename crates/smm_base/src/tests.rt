@@ -1,5 +1,6 @@
 use crate::{
-    DirStore, LoadError, MemSink, MemStore, SaveError, Sink, StdSink, Store, WriteError, write_all,
+    DirStore, Gate, LoadError, MemSink, MemStore, OpenGate, SaveError, Sink, StdSink, Store,
+    WriteError, write_all,
 };
 use std::fs;
 use std::test::Fail;
@@ -70,4 +71,13 @@ fn the_standard_output_takes_a_piece(rt: HostRuntime) -> Result<(), Fail> {
     let mut sink = StdSink::new(&rt);
     assert_eq!(rt; write_all(&mut sink, b"written\n"), Ok(()));
     Ok(())
+}
+
+fn is_shared<T: Send + Sync>(_: &T) {}
+
+#[test]
+fn threads_share_the_open_gate(_: HostRuntime) {
+    let gate = OpenGate;
+    is_shared(&gate);
+    gate.pass(1);
 }

@@ -1,6 +1,5 @@
 use Rattle.std.proofs.Common.{rules, arith}
-use Rattle.smm_base.specs.Sink.{appended}
-use Rattle.smm_base.proofs.Written.{appended-further}
+use Rattle.smm_base.specs.Sink.{appended-further}
 use Rattle.smm_base.proofs.sink.write_all.Goals as goal
 
 pub loop-done-preserved : goal.loop-done-preserved

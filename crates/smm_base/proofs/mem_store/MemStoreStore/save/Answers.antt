@@ -1,4 +1,4 @@
-use Rattle.std.proofs.Common.{◌≡◌, arith, ap, sym, ◌∙◌, rules, Some}
+use Rattle.std.proofs.Common.{ap, ◌∙◌, Some}
 use Rattle.std.specs.Option.{option_map}
 use Rattle.std.specs.BTreeMap.{get_by_text}
 use Rattle.smm_base.proofs.mem_store.MemStoreStore.save.Goals as goal
