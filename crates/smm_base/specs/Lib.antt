@@ -1,3 +1,10 @@
+pub mod Faults
 pub mod Kinds
 pub mod Register
+pub mod Sink
 pub mod Status
+pub mod Store
+pub mod MemSink
+pub mod MemStore
+pub mod DirStore
+pub mod StdSink
