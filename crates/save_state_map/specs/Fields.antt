@@ -148,6 +148,53 @@ is_writable IdtBaseHigh = false
 is_writable LdtBaseHigh = false
 is_writable GdtBaseHigh = false
 
+-- the place of a field in the list of all fields
+abbrev pub field_index : Field → ℕ
+field_index Cr0 = 0
+field_index Cr3 = 1
+field_index Rflags = 2
+field_index Efer = 3
+field_index Rip = 4
+field_index Dr6 = 5
+field_index Dr7 = 6
+field_index Tr = 7
+field_index Ldtr = 8
+field_index Gs = 9
+field_index Fs = 10
+field_index Ds = 11
+field_index Ss = 12
+field_index Cs = 13
+field_index Es = 14
+field_index IoState = 15
+field_index IoMemoryAddress = 16
+field_index Rdi = 17
+field_index Rsi = 18
+field_index Rbp = 19
+field_index Rsp = 20
+field_index Rbx = 21
+field_index Rdx = 22
+field_index Rcx = 23
+field_index Rax = 24
+field_index R8 = 25
+field_index R9 = 26
+field_index R10 = 27
+field_index R11 = 28
+field_index R12 = 29
+field_index R13 = 30
+field_index R14 = 31
+field_index R15 = 32
+field_index AutoHalt = 33
+field_index IoRestart = 34
+field_index Revision = 35
+field_index Smbase = 36
+field_index LdtBaseLow = 37
+field_index IdtBaseLow = 38
+field_index GdtBaseLow = 39
+field_index Cr4 = 40
+field_index IdtBaseHigh = 41
+field_index LdtBaseHigh = 42
+field_index GdtBaseHigh = 43
+
 -- the offset from SMBASE + 8000H at which the image begins: it ends at FFFFH from SMBASE
 abbrev pub image_start : MapKind → ℕ
 image_start Ia32 = 0x7E00

@@ -1,5 +1,5 @@
 -- Images: the bytes that a processor saves at an SMI, and the numbers of their fields.
-use Rattle.std.specs.Prelude.{◌≡◌, ℕ, ◌+◌, ◌^◌, ◌<◌, List, ◌++◌, length, take, drop, slice_index, Option, Some, None, option_map, IsSomeAnd}
+use Rattle.std.specs.Prelude.{◌≡◌, ℕ, ◌+◌, ◌^◌, ◌<◌, ◌≤◌, ◌⊎◌, List, ◌++◌, length, take, drop, slice_index, Option, Some, None, option_map, IsSomeAnd}
 use Rattle.byteorder.specs.Endian.{little_number, little_bytes}
 use Rattle.smm_base.specs.declared.kinds.MapKind.{MapKind}
 use Rattle.save_state_map.specs.declared.field.Place.{Place}
@@ -40,3 +40,11 @@ with_field m field number = record { kind = m.kind; bytes = with_number (field_p
 -- the image's map has the field, and the number fits its width
 abbrev pub Accepts : ImageContents → Field → ℕ → Type 0
 Accepts m field number = IsSomeAnd (field_place m.kind field) (λ place. number < 256 ^ place.width)
+
+-- one of two places ends before the other begins
+abbrev pub IsApart : Place → Place → Type 0
+IsApart p q = (p.offset + p.width ≤ q.offset) ⊎ (q.offset + q.width ≤ p.offset)
+
+-- a byte that stands before or behind a place
+abbrev pub IsOutside : Place → ℕ → Type 0
+IsOutside p at = (at < p.offset) ⊎ (p.offset + p.width ≤ at)

@@ -21,9 +21,9 @@ zeros_left : (n m : ℕ) (bytes : List ℕ) → n ≤ m → length bytes ≡ m �
 zeros_left n m bytes le size zeros =
     same_lists (replicate (m - n) 0) (drop n bytes) (omega (arith, length-replicate {A = ℕ} (m - n) 0, length-drop n bytes))
     (λ k d lt.
-        let inside : k < m - n = omega (arith, length-replicate {A = ℕ} (m - n) 0) in
-        let there : n + k < length bytes = omega arith in
-        get_or-replicate (m - n) k 0 d inside ∙ sym (get_or-drop n bytes k d ∙ get_or_default bytes (n + k) d 0 there ∙ zeros (n + k) (omega arith)))
+    let inside : k < m - n = omega (arith, length-replicate {A = ℕ} (m - n) 0) in
+    let there : n + k < length bytes = omega arith in
+    get_or-replicate (m - n) k 0 d inside ∙ sym (get_or-drop n bytes k d ∙ get_or_default bytes (n + k) d 0 there ∙ zeros (n + k) (omega arith)))
 
 -- an array's own bytes and zeros behind them are the array
 pub padded_back : (n m : ℕ) (bytes : List ℕ) → n ≤ m → length bytes ≡ m → ((i : ℕ) → n ≤ i → get_or bytes i 0 ≡ 0)

@@ -1,5 +1,5 @@
-ghost use Rattle.std.specs.Prelude.{◌≡◌, ◌+◌, ◌≤◌, ◌||◌, ◌==◌, IfSome, IsTrue};
-ghost use Rattle.save_state_map.specs.Fields.{intel64_row, ia32_row, field_place, image_length, is_writable};
+ghost use Rattle.std.specs.Prelude.{◌≡◌, ◌+◌, ◌≤◌, ◌||◌, ◌==◌, ◌<◌, length, slice_get, Some, IfSome, IsTrue};
+ghost use Rattle.save_state_map.specs.Fields.{intel64_row, ia32_row, field_index, field_place, image_length, is_writable};
 
 use smm_base::MapKind;
 
@@ -156,6 +156,15 @@ pub static FIELDS: [Field; 44] = [
 ];
 
 impl Field {
+    /// The field's place in [`FIELDS`].
+    pub fn index(self) -> usize
+        ensures index { result ≡ field_index self }
+        ensures listed { slice_get FIELDS result ≡ Some self }
+        ensures within { result < length FIELDS }
+    {
+        self as usize
+    }
+
     /// Where the field stands in an image of this map, or `None` where the map hasn't the field. The
     /// offsets are those of Intel SDM Volume 3, System Management Mode, but for the rows of
     /// LDT, IDT and GDT base and of CR4, which are this project's own.
@@ -189,29 +198,28 @@ impl Field {
     {
         matches!(
             self,
-
             Field::Rflags
-            | Field::Efer
-            | Field::Rip
-            | Field::Rdi
-            | Field::Rsi
-            | Field::Rbp
-            | Field::Rsp
-            | Field::Rbx
-            | Field::Rdx
-            | Field::Rcx
-            | Field::Rax
-            | Field::R8
-            | Field::R9
-            | Field::R10
-            | Field::R11
-            | Field::R12
-            | Field::R13
-            | Field::R14
-            | Field::R15
-            | Field::AutoHalt
-            | Field::IoRestart
-            | Field::Smbase
+                | Field::Efer
+                | Field::Rip
+                | Field::Rdi
+                | Field::Rsi
+                | Field::Rbp
+                | Field::Rsp
+                | Field::Rbx
+                | Field::Rdx
+                | Field::Rcx
+                | Field::Rax
+                | Field::R8
+                | Field::R9
+                | Field::R10
+                | Field::R11
+                | Field::R12
+                | Field::R13
+                | Field::R14
+                | Field::R15
+                | Field::AutoHalt
+                | Field::IoRestart
+                | Field::Smbase
         )
     }
 }

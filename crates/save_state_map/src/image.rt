@@ -99,10 +99,7 @@ impl Image {
     {
         let place = field.place(self.kind)?;
         let bytes = self.bytes();
-        Some(LittleEndian::read_uint(
-            &bytes[place.offset..],
-            place.width,
-        ))
+        Some(LittleEndian::read_uint(&bytes[place.offset..], place.width))
     }
 
     /// Puts a number into a field. False, and nothing changes, exactly where the image's map hasn't the field

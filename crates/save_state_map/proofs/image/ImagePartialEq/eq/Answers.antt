@@ -1,4 +1,4 @@
-use Rattle.std.proofs.Common.{◌≡◌, ◌-◌, ◌++◌, length, replicate, ap}
+use Rattle.std.proofs.Common.{◌≡◌, ◌-◌, ◌++◌, length, replicate}
 use Rattle.save_state_map.specs.Padding.{image_bytes_back}
 use Rattle.save_state_map.proofs.image.ImagePartialEq.eq.Goals as goal
 
