@@ -1,0 +1,103 @@
+ghost use Rattle.std.specs.Prelude.{◌≡◌, ◌≢◌, ◌*◌, ◌≤◌, List, length, drop, Some, None, Err, IfOk, IfErr, MatchResult};
+ghost use Rattle.save_state_map.specs.Fields.{image_length};
+ghost use Rattle.save_state_map.specs.Images.{ImageContents};
+ghost use Rattle.image_file.specs.declared.error.ImagesError.{ImagesError};
+ghost use Rattle.image_file.specs.declared.error.ImagesError.TheVariants.{NoMemory};
+ghost use Rattle.image_file.specs.Spelling.{IsSpelling};
+ghost use Rattle.image_file.specs.Refusals.{kind_number_of, kind_numbered, count_of, whole_length, refusal_of};
+ghost use Rattle.image_file.specs.Contents.{images_at};
+
+use crate::error::ImagesError;
+use byteorder::{ByteOrder, LittleEndian};
+use save_state_map::{Image, image_size};
+use smm_base::MapKind;
+use std::alloc::Global;
+
+const HEADER: usize = 12;
+
+const MOST: u32 = 64;
+
+/// The images that a file holds. `Ok` carries images exactly where the file is their spelling. Else the
+/// answer is the refusal of the first check that fails, unless a whole file meets want of memory.
+pub fn read_images(alloc: Global, bytes: &[u8]) -> Result<Vec<Image>, ImagesError>
+    // What is read is spelled so, and what is spelled so is read, unless memory runs out.
+    ensures found { IfOk result (λ images. IsSpelling bytes.now images.items) }
+    ensures only { (images : List ImageContents) → IsSpelling bytes.now images → MatchResult result (λ read. read.items ≡ images) (λ error. error ≡ NoMemory) }
+
+    // A file with a refusal gives that one, and no other file gives any but want of memory.
+    ensures refused { (error : ImagesError) → refusal_of bytes.now ≡ Some error → result ≡ Err error }
+    ensures refusal { IfErr result (λ error. error ≢ NoMemory → refusal_of bytes.now ≡ Some error) }
+{
+    let (kind, count) = checked(bytes)?;
+    images_of(alloc, kind, count, &bytes[HEADER..])
+}
+
+// The kind and the count of a file that has no refusal.
+fn checked(bytes: &[u8]) -> Result<(MapKind, u32), ImagesError>
+    ensures exact { MatchResult result (λ _. refusal_of bytes.now ≡ None) (λ error. refusal_of bytes.now ≡ Some error) }
+    ensures kind { IfOk result (λ found. found.0 ≡ kind_numbered (kind_number_of bytes.now)) }
+    ensures count { IfOk result (λ found. found.1 ≡ count_of bytes.now) }
+    ensures whole { IfOk result (λ found. length bytes.now ≡ whole_length found.0 found.1) }
+    ensures error { IfErr result (λ error. error ≢ NoMemory) }
+{
+    let size = bytes.len();
+    if size < HEADER {
+        return Err(ImagesError::Short(size));
+    }
+    if !bytes.starts_with(b"SMIM") {
+        return Err(ImagesError::Magic);
+    }
+    let version = LittleEndian::read_u16(&bytes[4..]);
+    if version != 1 {
+        return Err(ImagesError::Version(version));
+    }
+    let number = LittleEndian::read_u16(&bytes[6..]);
+    if number > 1 {
+        return Err(ImagesError::Kind(number));
+    }
+    let kind = kind_of(number);
+    let count = LittleEndian::read_u32(&bytes[8..]);
+    if count == 0 || count > MOST {
+        return Err(ImagesError::Count(count));
+    }
+    let whole = HEADER + count as usize * image_size(kind);
+    if size < whole {
+        return Err(ImagesError::Short(size));
+    }
+    if size > whole {
+        return Err(ImagesError::Long(size));
+    }
+    Ok((kind, count))
+}
+
+fn kind_of(number: u16) -> MapKind
+    ensures { result ≡ kind_numbered number }
+{
+    if number == 0 {
+        MapKind::Ia32
+    } else {
+        MapKind::Intel64
+    }
+}
+
+// The images that stand one after the other.
+fn images_of(
+    alloc: Global,
+    kind: MapKind,
+    count: u32,
+    bytes: &[u8],
+) -> Result<Vec<Image>, ImagesError>
+    requires { length bytes.now ≡ count * image_length kind }
+    ensures images { IfOk result (λ images. images.items ≡ images_at kind count bytes.now) }
+    ensures memory { IfErr result (λ error. error ≡ NoMemory) }
+{
+    let size = image_size(kind);
+    let mut images = Vec::new(alloc);
+    let mut rest = bytes;
+    for _ in 0..count {
+        let (front, behind) = rest.split_at(size);
+        images.push(Image::new(kind, front).unwrap())?;
+        rest = behind;
+    }
+    Ok(images)
+}
