@@ -1,9 +1,6 @@
-pub mod Shape
 pub mod Said
-pub mod Example
+pub mod Shape
 pub mod Processor
 pub mod Chipset
 pub mod Runs
-pub mod WordMapLemmas
-pub mod ChairLemmas
-pub mod SeatLemmas
+pub mod Resuming

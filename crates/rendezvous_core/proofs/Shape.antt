@@ -10,8 +10,11 @@ use Rattle.rendezvous_core.specs.declared.phase.Phase.TheVariants.{Out, In, Coun
 use Rattle.rendezvous_core.specs.declared.stepped.Stepped.{Stepped}
 use Rattle.rendezvous_core.specs.declared.stepped.Stepped.TheVariants as stepped
 use Rattle.rendezvous_core.specs.Platform.{Platform}
-use Rattle.rendezvous_core.specs.Protocol.{Chair, Seat}
-use Rattle.rendezvous_core.specs.Serving.{serving_said}
+use Rattle.rendezvous_core.specs.Protocol.{Chair, Cpu, Seat}
+use Rattle.save_state_map.specs.Images.{ImageContents}
+use Rattle.cpu_regs.specs.Registers.{Registers}
+use Rattle.rendezvous_core.specs.Serving.{ServingStep, serving_steps}
+use Rattle.rendezvous_core.proofs.Said.{Spoken}
 use Rattle.rendezvous_core.specs.Worlds.{World}
 use Rattle.rendezvous_core.specs.Machine.{Machine, Member, Session, Rule, effect}
 
@@ -23,13 +26,17 @@ pub record Shape : Type 0 where
   pub wave : ℕ
   pub blocked : ℕ
   pub said : List Label
-  pub rest : List Label
+  pub taken : List ServingStep
+  pub rest : List ServingStep
   pub in_set : Bool
   pub next_wave : ℕ  -- the chipset's
   pub waves : ℕ
   pub source : ℕ
   pub except : ℕ
   pub pend : ℕ
+  pub registers : Registers
+  pub image : ImageContents
+  pub last : ImageContents
 
 abbrev pub counter_of : Option Row → ℕ
 counter_of (Some ClaimBsp) = 1
@@ -131,14 +138,17 @@ lain_chair (Some GiveBsp) k = None
 lain_chair _ k = Some k
 
 abbrev pub chair_at : Shape → Chair
-chair_at x = record { still_to_say = x.rest }
+chair_at x = record { steps = x.rest }
+
+abbrev pub cpu_at : Shape → Cpu
+cpu_at x = record { registers = x.registers; image = x.image; last = x.last }
 
 abbrev pub processor_at : Option Row → Shape → Seat
 processor_at r x =
-    record { row = r; visits = x.visits; source = x.saw_source; inside = x.saw_inside; wave = x.wave; blocked = x.blocked; chair = held_chair r (chair_at x) }
+    record { row = r; visits = x.visits; source = x.saw_source; inside = x.saw_inside; wave = x.wave; blocked = x.blocked; chair = held_chair r (chair_at x); cpu = Some (cpu_at x) }
 
 abbrev pub chipset_at : Option Row → Shape → Seat
-chipset_at c x = record { row = c; visits = 0; source = 0; inside = 0; wave = x.next_wave; blocked = 0; chair = None }
+chipset_at c x = record { row = c; visits = 0; source = 0; inside = 0; wave = x.next_wave; blocked = 0; chair = None; cpu = None }
 
 abbrev pub world_at : Option Row → Option Row → Shape → World
 world_at r c x =
@@ -186,7 +196,7 @@ excepted_of (Some AnnounceWave) waves = waves + 1
 excepted_of _ waves = waves
 
 abbrev pub member_at : Option Row → Shape → Member
-member_at r x = record { phase = phase_of r; visits = x.visits; in_closed_set = x.in_set; is_released = false; has_departed = false }
+member_at r x = record { phase = phase_of r; visits = x.visits; registers = x.registers; image = x.image; last = x.last; in_closed_set = x.in_set; is_released = false; has_departed = false }
 
 abbrev pub machine_at : Option Row → Option Row → Shape → Machine
 machine_at r c x =
@@ -207,36 +217,36 @@ is_gone (Some _) = 0
 abbrev pub IsQuiet : List Label → Type 0
 IsQuiet said = said ≡ []
 
-abbrev pub IsSaying : Platform → ℕ → List Label → List Label → Type 0
-IsSaying p wave said [] = ⊥
-IsSaying p wave said (l ∷ ls) = said ++ l ∷ ls ≡ serving_said p wave
+abbrev pub IsSaying : Platform → ℕ → List Label → List ServingStep → List ServingStep → Type 0
+IsSaying p wave said taken [] = ⊥
+IsSaying p wave said taken (x ∷ xs) = (taken ++ x ∷ xs ≡ serving_steps p wave) × Spoken taken said
 
 abbrev pub HasSaid : Platform → ℕ → List Label → Type 0
-HasSaid p wave said = said ≡ serving_said p wave
+HasSaid p wave said = Spoken (serving_steps p wave) said
 
 -- what holds at each row of the processor
-abbrev pub ProcessorFits : Platform → Option Row → ℕ → ℕ → ℕ → List Label → List Label → Type 0
-ProcessorFits p None visits saw_inside wave said rest = Unit {0}
-ProcessorFits p (Some AwaitSmi) visits saw_inside wave said rest = (visits < p.visits) × IsQuiet said
-ProcessorFits p (Some SwitchOff) visits saw_inside wave said rest = visits ≡ p.visits
-ProcessorFits p (Some LookAtSource) visits saw_inside wave said rest = (visits ≤ p.visits) × IsQuiet said
-ProcessorFits p (Some LookAtInside) visits saw_inside wave said rest = (visits ≤ p.visits) × IsQuiet said
-ProcessorFits p (Some CountIn) visits saw_inside wave said rest = (visits ≤ p.visits) × IsQuiet said × (saw_inside ≡ 0)
-ProcessorFits p (Some ClaimBsp) visits saw_inside wave said rest = (visits ≤ p.visits) × IsQuiet said
-ProcessorFits p (Some MarkInside) visits saw_inside wave said rest = (visits ≤ p.visits) × IsQuiet said
-ProcessorFits p (Some TakeSource) visits saw_inside wave said rest = (visits ≤ p.visits) × IsQuiet said
-ProcessorFits p (Some LookAtExcept) visits saw_inside wave said rest = (visits ≤ p.visits) × IsQuiet said
-ProcessorFits p (Some (GatherFirst looks)) visits saw_inside wave said rest = (visits ≤ p.visits) × IsQuiet said
-ProcessorFits p (Some MarkInsync) visits saw_inside wave said rest = (visits ≤ p.visits) × IsQuiet said
-ProcessorFits p (Some LockCounter) visits saw_inside wave said rest = (visits ≤ p.visits) × IsQuiet said
-ProcessorFits p (Some Serve) visits saw_inside wave said rest = (visits ≤ p.visits) × IsSaying p wave said rest
-ProcessorFits p (Some LeaveInside) visits saw_inside wave said rest = (visits ≤ p.visits) × HasSaid p wave said
-ProcessorFits p (Some GiveBsp) visits saw_inside wave said rest = visits ≤ p.visits
-ProcessorFits p (Some LeaveInsync) visits saw_inside wave said rest = visits ≤ p.visits
-ProcessorFits p (Some UnlockCounter) visits saw_inside wave said rest = visits ≤ p.visits
-ProcessorFits p (Some AwaitSessionEnd) visits saw_inside wave said rest = (visits ≤ p.visits) × IsQuiet said
-ProcessorFits p (Some ClearSignal) visits saw_inside wave said rest = (visits ≤ p.visits) × IsQuiet said
-ProcessorFits p (Some _) visits saw_inside wave said rest = ⊥
+abbrev pub ProcessorFits : Platform → Option Row → ℕ → ℕ → ℕ → List Label → List ServingStep → List ServingStep → Type 0
+ProcessorFits p None visits saw_inside wave said taken rest = Unit {0}
+ProcessorFits p (Some AwaitSmi) visits saw_inside wave said taken rest = (visits < p.visits) × IsQuiet said
+ProcessorFits p (Some SwitchOff) visits saw_inside wave said taken rest = visits ≡ p.visits
+ProcessorFits p (Some LookAtSource) visits saw_inside wave said taken rest = (visits ≤ p.visits) × IsQuiet said
+ProcessorFits p (Some LookAtInside) visits saw_inside wave said taken rest = (visits ≤ p.visits) × IsQuiet said
+ProcessorFits p (Some CountIn) visits saw_inside wave said taken rest = (visits ≤ p.visits) × IsQuiet said × (saw_inside ≡ 0)
+ProcessorFits p (Some ClaimBsp) visits saw_inside wave said taken rest = (visits ≤ p.visits) × IsQuiet said
+ProcessorFits p (Some MarkInside) visits saw_inside wave said taken rest = (visits ≤ p.visits) × IsQuiet said
+ProcessorFits p (Some TakeSource) visits saw_inside wave said taken rest = (visits ≤ p.visits) × IsQuiet said
+ProcessorFits p (Some LookAtExcept) visits saw_inside wave said taken rest = (visits ≤ p.visits) × IsQuiet said
+ProcessorFits p (Some (GatherFirst looks)) visits saw_inside wave said taken rest = (visits ≤ p.visits) × IsQuiet said
+ProcessorFits p (Some MarkInsync) visits saw_inside wave said taken rest = (visits ≤ p.visits) × IsQuiet said
+ProcessorFits p (Some LockCounter) visits saw_inside wave said taken rest = (visits ≤ p.visits) × IsQuiet said
+ProcessorFits p (Some Serve) visits saw_inside wave said taken rest = (visits ≤ p.visits) × IsSaying p wave said taken rest
+ProcessorFits p (Some LeaveInside) visits saw_inside wave said taken rest = (visits ≤ p.visits) × HasSaid p wave said
+ProcessorFits p (Some GiveBsp) visits saw_inside wave said taken rest = visits ≤ p.visits
+ProcessorFits p (Some LeaveInsync) visits saw_inside wave said taken rest = visits ≤ p.visits
+ProcessorFits p (Some UnlockCounter) visits saw_inside wave said taken rest = visits ≤ p.visits
+ProcessorFits p (Some AwaitSessionEnd) visits saw_inside wave said taken rest = (visits ≤ p.visits) × IsQuiet said
+ProcessorFits p (Some ClearSignal) visits saw_inside wave said taken rest = (visits ≤ p.visits) × IsQuiet said
+ProcessorFits p (Some _) visits saw_inside wave said taken rest = ⊥
 
 -- what holds at each row of the chipset
 abbrev pub ChipsetFits : Platform → Option Row → ℕ → ℕ → Type 0
@@ -259,7 +269,7 @@ pub record SignalFits (p : Platform) (inside gone waves pend : ℕ) : Type 0 whe
   pub off_inside : pend ≡ 12 → waves ≡ length p.waves
 
 pub record Holds (p : Platform) (r c : Option Row) (x : Shape) : Type 0 where
-  pub processor : ProcessorFits p r x.visits x.saw_inside x.wave x.said x.rest
+  pub processor : ProcessorFits p r x.visits x.saw_inside x.wave x.said x.taken x.rest
   pub chipset : ChipsetFits p c x.next_wave x.waves
   pub signal : SignalFits p (is_in r) (is_gone r) x.waves x.pend
 

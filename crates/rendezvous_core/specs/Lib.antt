@@ -1,10 +1,7 @@
 pub mod Answer
-pub mod ChairInside
 pub mod Machine
 pub mod Platform
 pub mod Protocol
-pub mod SeatInside
+pub mod Service
 pub mod Serving
-pub mod WordMap
-pub mod WorldInside
 pub mod Worlds

@@ -1,20 +1,32 @@
 -- The rendezvous machine: phases, sets and a session; no words, semaphores, flags or positions. Which label may come
 -- in which state, and what it changes. It has the rules of the labels that one processor and the chipset say.
-use Rattle.std.specs.Prelude.{ℕ, ◌+◌, ◌≡◌, ◌≢◌, ◌<◌, ◌≤◌, ◌⊎◌, Bool, true, false, List, [], ◌∷◌, ◌++◌, length, slice_index_or, slice_set, replicate, map, Option, Some, None, IsSome, IsSomeAnd}
+use Rattle.std.specs.Prelude.{ℕ, ◌+◌, ◌≡◌, ◌≢◌, ◌<◌, ◌≤◌, ◌⊎◌, Bool, true, false, List, [], ◌∷◌, ◌++◌, length, slice_index_or, slice_set, map, ◌==◌, nat_lt, if◌then◌else◌, Option, Some, None, IsSome, IsSomeAnd}
 use Rattle.std.specs.Option.{option_map}
+use Rattle.std.specs.Bool.{MatchBool}
 use Rattle.std.specs.List.{count_by}
-use Rattle.smm_base.specs.declared.kinds.After.TheVariants.{Next}
+use Rattle.smm_base.specs.declared.kinds.MapKind.TheVariants.{Intel64}
+use Rattle.smm_base.specs.declared.registers.Register.{Register}
+use Rattle.smm_base.specs.declared.status.Status.{Status}
+use Rattle.smm_base.specs.declared.status.Status.TheVariants.{Success, InvalidParameter}
+use Rattle.save_state_map.specs.Images.{ImageContents}
+use Rattle.cpu_regs.specs.Registers.{Registers, loaded}
+use Rattle.cpu_regs.specs.Entering.{saved, after}
 use Rattle.sync_words.specs.declared.label.Label.{Label}
 use Rattle.sync_words.specs.declared.label.Label.TheVariants as label
 use Rattle.rendezvous_core.specs.declared.phase.Phase.{Phase}
 use Rattle.rendezvous_core.specs.declared.phase.Phase.TheVariants.{Out, In, Counted, Here, Gone, Off}
-use Rattle.rendezvous_core.specs.Platform.{Platform, wave_at, blocked_in}
+use Rattle.rendezvous_core.specs.Platform.{Platform, Operation, wave_at, blocked_in, no_cause}
+use Rattle.rendezvous_core.specs.Service.{write_status, image_on}
 use Rattle.rendezvous_core.specs.Serving.{IsWholeServing, IsServingPrefix}
 
--- a processor: its phase, how many visits it has made, and whether it is in the sets of the session
+-- a processor: its phase, how many visits it has made, its registers, its image, the image that it last resumed
+-- from, and whether it is in the sets of the session
 pub record Member : Type 0 where
   pub phase : Phase
   pub visits : ℕ
+  pub registers : Registers
+  pub image : ImageContents
+  pub last : ImageContents
   pub in_closed_set : Bool
   pub is_released : Bool
   pub has_departed : Bool
@@ -37,8 +49,11 @@ pub record Machine : Type 0 where
   pub source : ℕ  -- the wave that raised the interrupt, or 0
   pub session : Option Session
 
+abbrev pub no_image : ImageContents
+no_image = record { kind = Intel64; bytes = [] }
+
 abbrev pub nobody : Member
-nobody = record { phase = Off; visits = 0; in_closed_set = false; is_released = false; has_departed = false }
+nobody = record { phase = Off; visits = 0; registers = loaded no_image; image = no_image; last = no_image; in_closed_set = false; is_released = false; has_departed = false }
 
 abbrev pub member : Machine → ℕ → Member
 member m i = slice_index_or m.members i nobody
@@ -95,6 +110,15 @@ Says p l s = IsSomeAnd s.served (λ w. IsSomeAnd s.serving (λ said. IsServingPr
 abbrev pub IsServed : Platform → Session → Type 0
 IsServed p s = IsSomeAnd s.served (λ w. IsSomeAnd s.serving (IsWholeServing p w))
 
+-- A write of a register of processor c, and the status that the boot processor gets: INVALID_PARAMETER where there is no
+-- such processor, else that of the service on its own image. (On one processor there is no other image.)
+abbrev pub operation : ℕ → Register → ℕ → ℕ → Operation
+operation c register width value = record { cpu = c; register = register; width = width; value = value }
+
+abbrev pub StatusOf : Platform → Machine → ℕ → Operation → Status → Type 0
+StatusOf p m i o status =
+    MatchBool (nat_lt o.cpu p.processors) ((o.cpu ≡ i) × (status ≡ write_status (member m o.cpu).image o)) (status ≡ InvalidParameter)
+
 -- when an actor may say a label
 abbrev pub Rule : Platform → Machine → ℕ → Label → Type 0
 Rule p m i label.Silent = Unit {0}
@@ -120,10 +144,14 @@ Rule p m i (label.Begin w) =
     IsBsp m i (λ s. (s.served ≡ Some w) × (s.serving ≡ None) × (s.is_closed ≡ true)) × AllReported m i
 Rule p m i (label.Manage kind) = IsBsp m i (Says p (label.Manage kind))
 Rule p m i (label.Answer status) = IsBsp m i (Says p (label.Answer status))
+Rule p m i (label.Call h) = IsBsp m i (Says p (label.Call h))
+Rule p m i (label.Return h status) = IsBsp m i (Says p (label.Return h status))
+Rule p m i (label.Write c register width value status) =
+    IsBsp m i (Says p (label.Write c register width value status)) × StatusOf p m i (operation c register width value) status
 Rule p m i label.Spent = IsBsp m i (Says p label.Spent)
 Rule p m i label.Done = IsBsp m i (λ s. (s.is_done ≡ false) × IsServed p s × (s.is_closed ≡ true)) × AllReported m i
 Rule p m i label.End = IsBsp m i (λ s. s.is_done ≡ true) × AllDeparted m i
-Rule p m i (label.Resume after) = IsPhase m i Gone × (after ≡ Next)
+Rule p m i (label.Resume how) = IsPhase m i Gone × (how ≡ after (member m i).image)
 Rule p m i label.Off = IsPhase m i Out × ((m.waves ≡ length p.waves) ⊎ ((member m i).visits ≡ p.visits))
 -- no platform that is built says another label
 Rule p m i _ = ⊥
@@ -152,11 +180,16 @@ enclosed x = record x { in_closed_set = is_counted x }
 abbrev pub saying : Label → Session → Session
 saying l s = record s { serving = option_map (λ said. said ++ l ∷ []) s.serving }
 
+-- a write with SUCCESS changes the image of its processor
+abbrev pub with_write : Machine → Operation → Status → Machine
+with_write m o status = with_member m o.cpu (record (member m o.cpu) { image = image_on status (member m o.cpu).image o })
+
 -- what a label changes
 abbrev pub effect : Machine → ℕ → Label → Machine
 effect m i (label.Excepted e) = record m { excepted = m.excepted + 1; last_excepted = e }
 effect m i (label.Wave w) = record m { waves = w; source = w }
-effect m i label.Enter = with_member m i (record (member m i) { phase = In; visits = (member m i).visits + 1 })
+effect m i label.Enter =
+    with_member m i (record (member m i) { phase = In; visits = (member m i).visits + 1; image = saved (member m i).registers no_cause (member m i).image })
 effect m i label.Turn = with_phase m i Gone
 effect m i label.Arrive = with_phase m i Counted
 effect m i label.Late = with_phase m i Gone
@@ -169,10 +202,15 @@ effect m i (label.Close n) = record (with_session m (λ s. record s { is_closed 
 effect m i (label.Begin w) = with_session m (λ s. record s { serving = Some (label.Begin w ∷ []) })
 effect m i (label.Manage kind) = with_session m (saying (label.Manage kind))
 effect m i (label.Answer status) = with_session m (saying (label.Answer status))
+effect m i (label.Call h) = with_session m (saying (label.Call h))
+effect m i (label.Return h status) = with_session m (saying (label.Return h status))
+effect m i (label.Write c register width value status) =
+    with_session (with_write m (operation c register width value) status) (saying (label.Write c register width value status))
 effect m i label.Spent = with_session m (saying label.Spent)
 effect m i label.Done = with_session m (λ s. record s { is_done = true })
 effect m i label.End = record (with_phase m i Gone) { session = None }
-effect m i (label.Resume after) = with_phase m i Out
+effect m i (label.Resume how) =
+    with_member m i (record (member m i) { phase = Out; registers = loaded (member m i).image; last = (member m i).image })
 effect m i label.Off = with_phase m i Off
 effect m i _ = m
 
@@ -181,7 +219,41 @@ abbrev pub IsRun : Platform → Machine → List (ℕ × Label) → Type 0
 IsRun p m [] = Unit {0}
 IsRun p m (e ∷ es) = Rule p m e.0 e.1 × IsRun p (effect m e.0 e.1) es
 
--- at the start every processor is Out, and there is no session
-abbrev pub beginning : Platform → Machine
-beginning p =
-    record { members = replicate p.processors (record nobody { phase = Out }); waves = 0; excepted = 0; last_excepted = 0; source = 0; session = None }
+-- the machine after the labels
+abbrev pub machine_after : Machine → List (ℕ × Label) → Machine
+machine_after m [] = m
+machine_after m (e ∷ es) = machine_after (effect m e.0 e.1) es
+
+-- at the start every processor is Out with its image and the registers that this holds, and there is no session
+abbrev pub first_member : ImageContents → Member
+first_member m = record nobody { phase = Out; registers = loaded m; image = m; last = m }
+
+abbrev pub beginning : List ImageContents → Machine
+beginning images =
+    record { members = map first_member images; waves = 0; excepted = 0; last_excepted = 0; source = 0; session = None }
+
+-- The image that processor i last resumed from, from the labels alone: entering saves the registers into the image, a
+-- write with SUCCESS that names i changes it, and resuming hands it on and loads the registers from it.
+pub record Resumed : Type 0 where
+  pub registers : Registers
+  pub image : ImageContents
+  pub last : ImageContents
+
+abbrev pub resumed_write : ℕ → Operation → Status → Resumed → Resumed
+resumed_write i o status x = if o.cpu == i then record x { image = image_on status x.image o } else x
+
+abbrev pub resumed_own : Label → Bool → Resumed → Resumed
+resumed_own label.Enter is_own x = if is_own then record x { image = saved x.registers no_cause x.image } else x
+resumed_own (label.Resume how) is_own x = if is_own then record x { registers = loaded x.image; last = x.image } else x
+resumed_own _ is_own x = x
+
+abbrev pub resumed_by : ℕ → ℕ → Label → Resumed → Resumed
+resumed_by i actor (label.Write c register width value status) x = resumed_write i (operation c register width value) status x
+resumed_by i actor l x = resumed_own l (actor == i) x
+
+abbrev pub resumed_after : ℕ → Resumed → List (ℕ × Label) → Resumed
+resumed_after i x [] = x
+resumed_after i x (e ∷ es) = resumed_after i (resumed_by i e.0 e.1 x) es
+
+abbrev pub resumed_image : ℕ → ImageContents → List (ℕ × Label) → ImageContents
+resumed_image i m es = (resumed_after i (record { registers = loaded m; image = m; last = m }) es).last

@@ -1,8 +1,13 @@
 -- The platform: how many processors there are, what comes, and how long each part may take.
 use Rattle.std.specs.Prelude.{ℕ, zero, suc, ◌-◌, Bool, true, false, List, [], ◌∷◌, length, Option, Some, None, slice_get, slice_index_or}
 use Rattle.std.specs.List.{count_by}
+use Rattle.smm_base.specs.declared.kinds.Cause.{Cause}
 use Rattle.smm_base.specs.declared.kinds.HandlerType.{HandlerType}
 use Rattle.smm_base.specs.declared.kinds.HandlerType.TheVariants.{Root}
+use Rattle.smm_base.specs.declared.registers.Register.{Register}
+use Rattle.smm_base.specs.declared.registers.Register.TheVariants.{Rax}
+use Rattle.smm_base.specs.declared.status.Status.{Status}
+use Rattle.smm_base.specs.declared.status.Status.TheVariants.{Success}
 use Rattle.rendezvous_core.specs.declared.phase.Arrival.{Arrival}
 use Rattle.rendezvous_core.specs.declared.phase.Arrival.TheVariants.{Prompt, Delayed, Blocked, Absent}
 
@@ -11,7 +16,20 @@ pub record Wave : Type 0 where
   pub status : List Arrival
   pub manage : List HandlerType
 
--- The platform. The policy is `elected`, the mode is the traditional one, and no handler is registered.
+-- A handler's operation: a write of a register of a processor's image, as many low bytes of the value as the width says.
+pub record Operation : Type 0 where
+  pub cpu : ℕ
+  pub register : Register
+  pub width : ℕ
+  pub value : ℕ
+
+-- a handler: the list that it is registered on, what it answers, and its operations
+pub record Handler : Type 0 where
+  pub kind : HandlerType
+  pub answer : Status
+  pub ops : List Operation
+
+-- The platform. The policy is `elected` and the mode is the traditional one.
 pub record Platform : Type 0 where
   pub processors : ℕ
   pub t1 : ℕ  -- looks of the first round
@@ -19,6 +37,7 @@ pub record Platform : Type 0 where
   pub visits : ℕ  -- of each processor
   pub ops : ℕ  -- units of serving in one session
   pub waves : List Wave
+  pub handlers : List Handler  -- registered in this order
 
 -- the wave with this number, counted from 1
 abbrev pub wave_at : Platform → ℕ → Option Wave
@@ -54,10 +73,24 @@ abbrev pub manage_in : Option Wave → List HandlerType
 manage_in None = []
 manage_in (Some w) = w.manage
 
--- a platform of one processor
-abbrev pub with_one : ℕ → ℕ → ℕ → ℕ → List Wave → Platform
-with_one t1 t2 visits ops waves = record { processors = 1; t1 = t1; t2 = t2; visits = visits; ops = ops; waves = waves }
+-- a visit without a cause: no HLT, and no I/O instruction
+abbrev pub no_cause : Cause
+no_cause = record { halt = false; io = None }
 
--- the one platform that is built: one prompt processor, one wave, and a walk over the root handlers
-abbrev pub the_platform : Platform
-the_platform = with_one 8 8 3 64 (record { status = Prompt ∷ []; manage = Root ∷ [] } ∷ [])
+-- a platform of one processor
+abbrev pub with_one : ℕ → ℕ → ℕ → ℕ → List Wave → List Handler → Platform
+with_one t1 t2 visits ops waves handlers =
+    record { processors = 1; t1 = t1; t2 = t2; visits = visits; ops = ops; waves = waves; handlers = handlers }
+
+-- a root handler that writes this number to RAX
+abbrev pub rax_handler : ℕ → Handler
+rax_handler value =
+    record { kind = Root; answer = Success; ops = record { cpu = 0; register = Rax; width = 8; value = value } ∷ [] }
+
+abbrev pub handlers_for : Option ℕ → List Handler
+handlers_for None = []
+handlers_for (Some value) = rax_handler value ∷ []
+
+-- the platforms that are built: one prompt processor, one wave, a walk over the root handlers, and one such handler or none
+abbrev pub the_platform : Option ℕ → Platform
+the_platform value = with_one 8 8 3 64 (record { status = Prompt ∷ []; manage = Root ∷ [] } ∷ []) (handlers_for value)

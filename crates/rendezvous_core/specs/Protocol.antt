@@ -3,7 +3,14 @@
 -- a platform each loop over other processors is empty, and so its rows are passed over.
 use Rattle.std.specs.Prelude.{ℕ, zero, suc, ◌+◌, ◌==◌, nat_le, nat_lt, nat_eq, Bool, true, false, ◌&&◌, if◌then◌else◌, List, [], ◌∷◌, length, Option, Some, None, drop}
 use Rattle.std.specs.Option.{option_map}
+use Rattle.smm_base.specs.declared.kinds.After.{After}
 use Rattle.smm_base.specs.declared.kinds.After.TheVariants.{Next}
+use Rattle.smm_base.specs.declared.kinds.Cause.{Cause}
+use Rattle.smm_base.specs.declared.status.Status.{Status}
+use Rattle.smm_base.specs.declared.status.Status.TheVariants.{InvalidParameter}
+use Rattle.save_state_map.specs.Images.{ImageContents}
+use Rattle.cpu_regs.specs.Registers.{Registers, loaded}
+use Rattle.cpu_regs.specs.Entering.{saved, after}
 use Rattle.sync_words.specs.declared.word.WordId.{WordId}
 use Rattle.sync_words.specs.declared.word.WordId.TheVariants as word
 use Rattle.sync_words.specs.declared.access.Access.{Access}
@@ -15,12 +22,19 @@ use Rattle.sync_words.specs.declared.label.Label.{Label}
 use Rattle.sync_words.specs.declared.label.Label.TheVariants as label
 use Rattle.sync_words.specs.declared.row.Row.{Row}
 use Rattle.sync_words.specs.declared.row.Row.TheVariants.{AwaitSmi, SwitchOff, LookAtSource, LookAtInside, CountIn, ClaimBsp, AwaitBsp, MarkInside, TakeSource, LookAtExcept, GatherFirst, GatherSecond, MarkInsync, LockCounter, Serve, LeaveInside, GiveBsp, LeaveInsync, UnlockCounter, AwaitSessionEnd, ClearSignal, AnnounceBlocked, AnnounceWave, RaiseWave, WatchSource, AwaitServed, RaiseOff}
-use Rattle.rendezvous_core.specs.Platform.{Platform, wave_at, blocked_in, signal_at}
-use Rattle.rendezvous_core.specs.Serving.{serving_said}
+use Rattle.rendezvous_core.specs.Platform.{Platform, Operation, wave_at, blocked_in, signal_at, no_cause}
+use Rattle.rendezvous_core.specs.Service.{write_status, image_on}
+use Rattle.rendezvous_core.specs.Serving.{ServingStep, Say, Do, serving_steps}
 
--- The chair of the boot processor: what it has still to say of the session's serving.
+-- The chair of the boot processor: the steps of the session's serving that are still to be taken.
 pub record Chair : Type 0 where
-  pub still_to_say : List Label
+  pub steps : List ServingStep
+
+-- What a processor has for itself: its registers, its save-state image, and the image as it last resumed from it.
+pub record Cpu : Type 0 where
+  pub registers : Registers
+  pub image : ImageContents
+  pub last : ImageContents
 
 -- The position of an actor, with what it has found so far and what it holds.
 pub record Seat : Type 0 where
@@ -31,6 +45,7 @@ pub record Seat : Type 0 where
   pub wave : ℕ  -- the wave that it serves; of the chipset the one that it announces
   pub blocked : ℕ  -- what it found in `except`
   pub chair : Option Chair
+  pub cpu : Option Cpu  -- none for the chipset
 
 -- the word that the actor `me` wants at a row
 abbrev pub word_of : ℕ → Row → WordId
@@ -108,44 +123,60 @@ look_label true last round found = label.Ready found
 look_label false true round found = label.Expire round
 look_label false false round found = label.Silent
 
--- what a session says next
-abbrev pub first_said : List Label → Label
-first_said [] = label.Silent
-first_said (l ∷ ls) = l
+-- The status of a write by the boot processor: of its own image, or of a processor that isn't there.
+abbrev pub own_write_status : ℕ → Operation → Option Cpu → Status
+own_write_status me o None = InvalidParameter
+own_write_status me o (Some c) = if o.cpu == me then write_status c.image o else InvalidParameter
 
-abbrev pub next_said : Option Chair → Label
-next_said None = label.Silent
-next_said (Some c) = first_said c.still_to_say
+-- what a step of the serving says
+abbrev pub said_by : ℕ → Option Cpu → ServingStep → Label
+said_by me cpu (Say l) = l
+said_by me cpu (Do o) =
+    label.Write o.cpu o.register o.width o.value (own_write_status me o cpu)
+
+-- what the boot processor says next
+abbrev pub first_said : ℕ → Option Cpu → List ServingStep → Label
+first_said me cpu [] = label.Silent
+first_said me cpu (x ∷ xs) = said_by me cpu x
+
+abbrev pub next_said : ℕ → Option Cpu → Option Chair → Label
+next_said me cpu None = label.Silent
+next_said me cpu (Some c) = first_said me cpu c.steps
+
+-- how a processor goes on after it resumes
+abbrev pub resumes_by : Option Cpu → After
+resumes_by None = Next
+resumes_by (Some c) = after c.image
 
 -- what the event says
-abbrev pub label_of : Platform → Seat → Row → ℕ → Label
-label_of p s AwaitSmi found = if found == 1 then label.Enter else label.Off
-label_of p s SwitchOff found = label.Off
-label_of p s LookAtSource found = label.Silent
-label_of p s LookAtInside found = if (s.source == 0 && found == 0) then label.Turn else label.Silent
-label_of p s CountIn found = if found == LOCKED then label.Late else label.Arrive
-label_of p s ClaimBsp found = if found == LOCKED then label.Elect else label.Silent
-label_of p s AwaitBsp found = label.Silent
-label_of p s MarkInside found = label.Silent
-label_of p s TakeSource found = label.Served found
-label_of p s LookAtExcept found = label.Gather found
-label_of p s (GatherFirst looks) found = look_label (are_all_there p s found) (nat_le p.t1 (looks + 1)) 1 found
-label_of p s (GatherSecond looks) found = look_label (are_all_there p s found) (nat_le p.t2 (looks + 1)) 2 found
-label_of p s MarkInsync found = label.Silent
-label_of p s LockCounter found = label.Close found
-label_of p s Serve found = next_said s.chair
-label_of p s LeaveInside found = label.Done
-label_of p s GiveBsp found = label.Silent
-label_of p s LeaveInsync found = label.Silent
-label_of p s UnlockCounter found = label.End
-label_of p s AwaitSessionEnd found = label.Silent
-label_of p s ClearSignal found = label.Resume Next
-label_of p s AnnounceBlocked found = label.Excepted (blocked_in (wave_at p s.wave))
-label_of p s AnnounceWave found = label.Wave s.wave
-label_of p s (RaiseWave j) found = label.Silent
-label_of p s (WatchSource looks) found = label.Silent
-label_of p s AwaitServed found = label.Silent
-label_of p s (RaiseOff j) found = label.Silent
+abbrev pub label_of : Platform → ℕ → Seat → Row → ℕ → Label
+label_of p me s AwaitSmi found = if found == 1 then label.Enter else label.Off
+label_of p me s SwitchOff found = label.Off
+label_of p me s LookAtSource found = label.Silent
+label_of p me s LookAtInside found = if (s.source == 0 && found == 0) then label.Turn else label.Silent
+label_of p me s CountIn found = if found == LOCKED then label.Late else label.Arrive
+label_of p me s ClaimBsp found = if found == LOCKED then label.Elect else label.Silent
+label_of p me s AwaitBsp found = label.Silent
+label_of p me s MarkInside found = label.Silent
+label_of p me s TakeSource found = label.Served found
+label_of p me s LookAtExcept found = label.Gather found
+label_of p me s (GatherFirst looks) found = look_label (are_all_there p s found) (nat_le p.t1 (looks + 1)) 1 found
+label_of p me s (GatherSecond looks) found = look_label (are_all_there p s found) (nat_le p.t2 (looks + 1)) 2 found
+label_of p me s MarkInsync found = label.Silent
+label_of p me s LockCounter found = label.Close found
+label_of p me s Serve found = next_said me s.cpu s.chair
+label_of p me s LeaveInside found = label.Done
+label_of p me s GiveBsp found = label.Silent
+label_of p me s LeaveInsync found = label.Silent
+label_of p me s UnlockCounter found = label.End
+label_of p me s AwaitSessionEnd found = label.Silent
+label_of p me s ClearSignal found = label.Resume (resumes_by s.cpu)
+label_of p me s AnnounceBlocked found = label.Excepted (blocked_in (wave_at p s.wave))
+label_of p me s AnnounceWave found = label.Wave s.wave
+label_of p me s (RaiseWave j) found = label.Silent
+label_of p me s (WatchSource looks) found = label.Silent
+label_of p me s AwaitServed found = label.Silent
+label_of p me s (RaiseOff j) found = label.Silent
 
 -- a processor waits for an interrupt, but after all its visits it turns itself off
 abbrev pub to_await : Platform → Seat → Row
@@ -165,15 +196,15 @@ each_processor p at j after = if nat_lt j p.processors then Some (at j) else aft
 abbrev pub to_wave : Platform → ℕ → Row
 to_wave p w = if nat_le w (length p.waves) then AnnounceBlocked else RaiseOff 0
 
--- serving goes on while there is something to say behind the next label
-abbrev pub row_by_rest : List Label → Row
+-- serving goes on while there is a step behind the next one
+abbrev pub row_by_rest : List ServingStep → Row
 row_by_rest [] = LeaveInside
-row_by_rest (l ∷ []) = LeaveInside
-row_by_rest (l ∷ m ∷ ls) = Serve
+row_by_rest (x ∷ []) = LeaveInside
+row_by_rest (x ∷ y ∷ xs) = Serve
 
 abbrev pub serving_row : Option Chair → Row
 serving_row None = LeaveInside
-serving_row (Some c) = row_by_rest c.still_to_say
+serving_row (Some c) = row_by_rest c.steps
 
 -- the row after the event, or none where the actor is off then
 abbrev pub row_after : Platform → Seat → Row → ℕ → Option Row
@@ -228,21 +259,47 @@ abbrev pub blocked_after : Seat → Row → ℕ → ℕ
 blocked_after s LookAtExcept found = found
 blocked_after s _ found = s.blocked
 
--- the chair as a session's serving begins, and after one label more was said
+-- the chair as a session's serving begins, and after one step more was taken
 abbrev pub begun : Platform → ℕ → Chair
-begun p wave = record { still_to_say = serving_said p wave }
+begun p wave = record { steps = serving_steps p wave }
 
-abbrev pub said_one : Chair → Chair
-said_one c = record { still_to_say = drop 1 c.still_to_say }
+abbrev pub one_taken : Chair → Chair
+one_taken c = record { steps = drop 1 c.steps }
 
 -- the chair in the actor's hands: serving begins behind the lock of the counter
 abbrev pub chair_after : Platform → ℕ → Option Chair → Row → Option Chair
 chair_after p wave chair LockCounter = option_map (λ _. begun p wave) chair
-chair_after p wave chair Serve = option_map said_one chair
+chair_after p wave chair Serve = option_map one_taken chair
 chair_after p wave chair _ = chair
 
-abbrev pub seat_after : Platform → Seat → Row → ℕ → Seat
-seat_after p s r found =
+-- the processor after a step of its serving: a write of its own image, and nothing else, changes it
+abbrev pub image_taken : ℕ → ServingStep → ImageContents → ImageContents
+image_taken me (Say l) m = m
+image_taken me (Do o) m = if o.cpu == me then image_on (write_status m o) m o else m
+
+abbrev pub first_taken : ℕ → List ServingStep → Cpu → Cpu
+first_taken me [] c = c
+first_taken me (x ∷ xs) c = record c { image = image_taken me x c.image }
+
+abbrev pub served_cpu : ℕ → Option Chair → Cpu → Cpu
+served_cpu me None c = c
+served_cpu me (Some k) c = first_taken me k.steps c
+
+-- the processor as it enters, which saves its registers, and as it resumes, which loads them
+abbrev pub entered_cpu : Cpu → Cpu
+entered_cpu c = record c { image = saved c.registers no_cause c.image }
+
+abbrev pub resumed_cpu : Cpu → Cpu
+resumed_cpu c = record c { registers = loaded c.image; last = c.image }
+
+abbrev pub cpu_after : ℕ → Option Chair → Option Cpu → Row → ℕ → Option Cpu
+cpu_after me chair cpu AwaitSmi found = if found == 1 then option_map entered_cpu cpu else cpu
+cpu_after me chair cpu Serve found = option_map (served_cpu me chair) cpu
+cpu_after me chair cpu ClearSignal found = option_map resumed_cpu cpu
+cpu_after me chair cpu _ found = cpu
+
+abbrev pub seat_after : Platform → ℕ → Seat → Row → ℕ → Seat
+seat_after p me s r found =
     record {
       row = row_after p s r found;
       visits = visits_after s r found;
@@ -251,4 +308,5 @@ seat_after p s r found =
       wave = wave_after s r found;
       blocked = blocked_after s r found;
       chair = chair_after p s.wave s.chair r;
+      cpu = cpu_after me s.chair s.cpu r found;
     }

@@ -1,13 +1,15 @@
--- What the boot processor says while it serves: the form of a whole list of labels.
+-- What the boot processor says while it serves: the form of a whole list of labels, and the steps that the protocol takes.
 --
 -- A part of the list is told by what may follow it: `P k n es` says that the list es, with n units left, begins with
 -- P and goes on from there as k says.
-use Rattle.std.specs.Prelude.{ℕ, zero, suc, ◌≡◌, List, [], ◌∷◌, ◌++◌}
+use Rattle.std.specs.Prelude.{ℕ, zero, suc, ◌+◌, ◌≡◌, ◌==◌, Bool, true, false, List, [], ◌∷◌, ◌++◌}
 use Rattle.smm_base.specs.declared.kinds.HandlerType.{HandlerType}
+use Rattle.smm_base.specs.declared.kinds.HandlerType.TheVariants.{Root, Typed}
+use Rattle.smm_base.specs.declared.status.Status.{Status}
 use Rattle.sync_words.specs.declared.label.Label.{Label}
 use Rattle.sync_words.specs.declared.label.Label.TheVariants as label
-use Rattle.rendezvous_core.specs.Platform.{Platform, wave_at, manage_in}
-use Rattle.rendezvous_core.specs.Answer.{answer_of}
+use Rattle.rendezvous_core.specs.Platform.{Platform, Handler, Operation, wave_at, manage_in}
+use Rattle.rendezvous_core.specs.Answer.{answer_of, stops}
 
 -- what may stand in the rest of the list, with so many units left
 abbrev pub Rest : Type 1
@@ -33,29 +35,104 @@ by_left (suc n) none some = some n
 abbrev pub InUnit : Part → Part
 InUnit part k n es = by_left n (Exactly label.Spent Ends zero es) (λ left. part k left es)
 
--- A walk over the handlers of a type. None is registered.
-abbrev pub Walk : HandlerType → Part
-Walk kind k = Exactly (label.Manage kind) (Exactly (label.Answer (answer_of kind [])) k)
+-- the label of a write names the operation; its status is no matter of the list
+abbrev pub FitsWrite : Operation → Label → Type 0
+FitsWrite o (label.Write cpu register width value status) = (cpu ≡ o.cpu) × (register ≡ o.register) × (width ≡ o.width) × (value ≡ o.value)
+FitsWrite o _ = ⊥
+
+abbrev pub Writing : Operation → Part
+Writing o k n [] = ⊥
+Writing o k n (l ∷ es) = FitsWrite o l × k n es
+
+-- a handler's operations, each a unit
+abbrev pub Operations : List Operation → Part
+Operations [] k = k
+Operations (o ∷ os) k = InUnit (Writing o) (Operations os k)
+
+-- the call of a handler, by its place in the file
+abbrev pub Calling : ℕ → Handler → Part
+Calling h handler k = Exactly (label.Call h) (Operations handler.ops (Exactly (label.Return h handler.answer) k))
+
+abbrev pub same_kind : HandlerType → HandlerType → Bool
+same_kind Root Root = true
+same_kind Root (Typed b) = false
+same_kind (Typed a) Root = false
+same_kind (Typed a) (Typed b) = a == b
+
+-- does a walk stop at the status? Only one over the list of a GUID does
+abbrev pub ends_walk : HandlerType → Status → Bool
+ends_walk Root x = false
+ends_walk (Typed g) x = stops x
+
+abbrev pub by_test : Bool → Rest → Rest → Rest
+by_test true p q = p
+by_test false p q = q
+
+-- The calls of a walk, and their statuses: each handler of the type, in the order of registration, up to and with
+-- the one whose status ends the walk. Each call is a unit.
+abbrev pub Calls : HandlerType → ℕ → List Handler → (List Status → Rest) → Rest
+Calls kind h [] k = k []
+Calls kind h (x ∷ xs) k =
+    by_test (same_kind x.kind kind)
+    (InUnit (Calling h x) (by_test (ends_walk kind x.answer) (k (x.answer ∷ [])) (Calls kind (h + 1) xs (λ later. k (x.answer ∷ later)))))
+    (Calls kind (h + 1) xs k)
+
+-- a walk over the handlers of a type: its answer follows from the statuses
+abbrev pub Walk : List Handler → HandlerType → Part
+Walk handlers kind k =
+    Exactly (label.Manage kind) (Calls kind 0 handlers (λ statuses. Exactly (label.Answer (answer_of kind statuses)) k))
 
 -- one walk for each entry, each a unit; after the last the list is whole
-abbrev pub Entries : List HandlerType → Rest
-Entries [] = Ends
-Entries (kind ∷ kinds) = InUnit (Walk kind) (Entries kinds)
+abbrev pub Entries : List Handler → List HandlerType → Rest
+Entries handlers [] = Ends
+Entries handlers (kind ∷ kinds) = InUnit (Walk handlers kind) (Entries handlers kinds)
 
 -- a whole list of a session that serves the wave w
 abbrev pub IsWholeServing : Platform → ℕ → List Label → Type 0
-IsWholeServing p w es = Exactly (label.Begin w) (Entries (manage_in (wave_at p w))) p.ops es
+IsWholeServing p w es = Exactly (label.Begin w) (Entries p.handlers (manage_in (wave_at p w))) p.ops es
 
 -- a list that can be made whole
 abbrev pub IsServingPrefix : Platform → ℕ → List Label → Type 0
 IsServingPrefix p w es = (more : List Label) × IsWholeServing p w (es ++ more)
 
--- What the protocol says: the labels of the entries' walks, with so many units left ..
-abbrev pub entries_said : ℕ → List HandlerType → List Label
-entries_said n [] = []
-entries_said zero (kind ∷ kinds) = label.Spent ∷ []
-entries_said (suc n) (kind ∷ kinds) = label.Manage kind ∷ label.Answer (answer_of kind []) ∷ entries_said n kinds
+-- The protocol's steps: a label that is known from the start, or a write, whose label shows its status.
+pub data ServingStep : Type 0 where
+  Say : Label → ServingStep
+  Do : Operation → ServingStep
 
--- .. and all labels of a session that serves the wave w
-abbrev pub serving_said : Platform → ℕ → List Label
-serving_said p w = label.Begin w ∷ entries_said p.ops (manage_in (wave_at p w))
+-- a unit is begun; where none is left, `spent` is the last step
+abbrev pub unit_steps : ℕ → (ℕ → List ServingStep) → List ServingStep
+unit_steps zero k = Say label.Spent ∷ []
+unit_steps (suc left) k = k left
+
+-- the steps of a handler's operations, with so many units left, and what follows
+abbrev pub operation_steps : List Operation → ℕ → (ℕ → List ServingStep) → List ServingStep
+operation_steps [] n k = k n
+operation_steps (o ∷ os) n k = unit_steps n (λ left. Do o ∷ operation_steps os left k)
+
+abbrev pub step_test : Bool → List ServingStep → List ServingStep → List ServingStep
+step_test true p q = p
+step_test false p q = q
+
+-- the steps of a walk's calls, and what follows their statuses
+abbrev pub call_steps : HandlerType → ℕ → List Handler → ℕ → (List Status → ℕ → List ServingStep) → List ServingStep
+call_steps kind h [] n k = k [] n
+call_steps kind h (x ∷ xs) n k =
+    step_test (same_kind x.kind kind)
+    (unit_steps n (λ left.
+    Say (label.Call h)
+    ∷ operation_steps x.ops left (λ later.
+    Say (label.Return h x.answer)
+    ∷ step_test (ends_walk kind x.answer) (k (x.answer ∷ []) later) (call_steps kind (h + 1) xs later (λ statuses. k (x.answer ∷ statuses))))))
+    (call_steps kind (h + 1) xs n k)
+
+abbrev pub entry_steps : List Handler → List HandlerType → ℕ → List ServingStep
+entry_steps handlers [] n = []
+entry_steps handlers (kind ∷ kinds) n =
+    unit_steps n (λ left.
+    Say (label.Manage kind)
+    ∷ call_steps kind 0 handlers left (λ statuses later. Say (label.Answer (answer_of kind statuses)) ∷ entry_steps handlers kinds later))
+
+-- all steps of a session that serves the wave w
+abbrev pub serving_steps : Platform → ℕ → List ServingStep
+serving_steps p w = Say (label.Begin w) ∷ entry_steps p.handlers (manage_in (wave_at p w)) p.ops

@@ -1,5 +1,8 @@
 -- The world, one step of an actor in it, and the replay of a schedule.
-use Rattle.std.specs.Prelude.{ℕ, ◌+◌, ◌≡◌, Bool, true, false, List, [], ◌∷◌, ◌++◌, slice_index_or, slice_get, slice_set, replicate, Option, Some, None, is_none}
+use Rattle.std.specs.Prelude.{ℕ, ◌+◌, ◌≡◌, Bool, true, false, List, [], ◌∷◌, ◌++◌, slice_index_or, slice_get, slice_set, replicate, map, Option, Some, None, is_none}
+use Rattle.std.specs.Option.{option_map}
+use Rattle.save_state_map.specs.Images.{ImageContents}
+use Rattle.cpu_regs.specs.Registers.{loaded}
 use Rattle.std.specs.List.{list_all}
 use Rattle.sync_words.specs.Access.{applied}
 use Rattle.sync_words.specs.declared.word.WordId.{WordId}
@@ -17,7 +20,7 @@ use Rattle.sync_words.specs.declared.row.Row.TheVariants.{AwaitSmi, AnnounceBloc
 use Rattle.rendezvous_core.specs.declared.stepped.Stepped.{Stepped}
 use Rattle.rendezvous_core.specs.declared.stepped.Stepped.TheVariants as stepped
 use Rattle.rendezvous_core.specs.Platform.{Platform}
-use Rattle.rendezvous_core.specs.Protocol.{Chair, Seat, word_of, access_of, hand_of, label_of, seat_after}
+use Rattle.rendezvous_core.specs.Protocol.{Chair, Cpu, Seat, word_of, access_of, hand_of, label_of, seat_after}
 
 -- the ten kinds of words, the last four with one word for each processor
 pub record Words : Type 0 where
@@ -88,7 +91,7 @@ pub record Turn : Type 0 where
 -- the event of an access that found this number
 abbrev pub event_of : Platform → ℕ → Seat → Row → ℕ → Event
 event_of p me s r found =
-    record { actor = me; word = word_of me r; access = access_of p me s r; found = found; label = label_of p s r found }
+    record { actor = me; word = word_of me r; access = access_of p me s r; found = found; label = label_of p me s r found }
 
 -- the chair changes hands: what is taken comes to the seat, what is given lies on the word
 abbrev pub lying_after : Hand → Option Chair → Seat → Option Chair
@@ -105,13 +108,13 @@ holding_after (Give k) chair s = record s { chair = None }
 abbrev pub moved : Platform → Words → Option Chair → ℕ → Seat → Row → Applied → Turn
 moved p words chair me s r (NotReady found) = record { stepped = stepped.Waiting found; words = words; chair = chair; seat = s }
 moved p words chair me s r (Same found) =
-    record { stepped = stepped.Event (event_of p me s r found); words = words; chair = chair; seat = seat_after p s r found }
+    record { stepped = stepped.Event (event_of p me s r found); words = words; chair = chair; seat = seat_after p me s r found }
 moved p words chair me s r (Changed new found) =
     record {
       stepped = stepped.Event (event_of p me s r found);
       words = write words (word_of me r) new;
-      chair = lying_after (hand_of p r) chair (seat_after p s r found);
-      seat = holding_after (hand_of p r) chair (seat_after p s r found);
+      chair = lying_after (hand_of p r) chair (seat_after p me s r found);
+      seat = holding_after (hand_of p r) chair (seat_after p me s r found);
     }
 
 -- The turn of the actor `me`: the access that its row wants, on the word as it stands. An actor that is off wants none.
@@ -149,17 +152,20 @@ abbrev pub world_after : Platform → World → List ℕ → World
 world_after p w [] = w
 world_after p w (a ∷ rest) = world_after p (step p w a).1 rest
 
--- where an actor begins
-abbrev pub first_seat : Row → ℕ → Seat
-first_seat r w = record { row = Some r; visits = 0; source = 0; inside = 0; wave = w; blocked = 0; chair = None }
+-- where the chipset begins, and a processor with its image
+abbrev pub first_seat : Row → ℕ → Option Cpu → Seat
+first_seat r w cpu = record { row = Some r; visits = 0; source = 0; inside = 0; wave = w; blocked = 0; chair = None; cpu = cpu }
 
--- the world before any event: the chair lies on the word `bsp`
-abbrev pub start : Platform → World
-start p =
+abbrev pub first_cpu : ImageContents → Cpu
+first_cpu m = record { registers = loaded m; image = m; last = m }
+
+-- the world before any event, with an image for each processor: the chair lies on the word `bsp`
+abbrev pub start : Platform → List ImageContents → World
+start p images =
     record {
       words = first_words p.processors;
-      chair = Some (record { still_to_say = [] });
-      seats = replicate p.processors (first_seat AwaitSmi 0) ++ first_seat AnnounceBlocked 1 ∷ [];
+      chair = Some (record { steps = [] });
+      seats = map (λ m. first_seat AwaitSmi 0 (Some (first_cpu m))) images ++ first_seat AnnounceBlocked 1 None ∷ [];
     }
 
 -- a replay as far as it has come, with room for so many events
@@ -169,12 +175,20 @@ pub record Replay : Type 0 where
   pub room : ℕ
 
 -- The replay of a schedule: its events ..
-abbrev pub replay_events : Platform → List ℕ → List Event
-replay_events p schedule = events_from p (start p) schedule
+abbrev pub replay_events : Platform → List ImageContents → List ℕ → List Event
+replay_events p images schedule = events_from p (start p images) schedule
 
 -- .. and the world that it leaves
-abbrev pub replay_world : Platform → List ℕ → World
-replay_world p schedule = world_after p (start p) schedule
+abbrev pub replay_world : Platform → List ImageContents → List ℕ → World
+replay_world p images schedule = world_after p (start p images) schedule
+
+-- the image that a processor last resumed from, or its first
+abbrev pub last_of : Option Seat → Option ImageContents
+last_of None = None
+last_of (Some s) = option_map (λ c. c.last) s.cpu
+
+abbrev pub last_image : World → ℕ → Option ImageContents
+last_image w i = last_of (slice_get w.seats i)
 
 abbrev pub is_off : Seat → Bool
 is_off s = is_none s.row

@@ -1,12 +1,13 @@
--- Each step keeps the invariant, so the labels are a run.
-use Rattle.std.proofs.Common.{arith}
-use Rattle.rendezvous_core.specs.Platform.{the_platform}
-use Rattle.rendezvous_core.proofs.Runs.{every_run}
+-- Each step keeps the world and the machine together.
+use Rattle.rendezvous_core.proofs.Runs.{every_run, every_last}
+use Rattle.rendezvous_core.proofs.Resuming.{resumed_is_last}
 use Rattle.rendezvous_core.proofs.law.every_schedule.Goals as goal
 
-pub returns-clause-built : goal.returns-clause-built
-returns-clause-built c =
-    λ schedule. every_run the_platform.t1 the_platform.t2 the_platform.visits the_platform.ops the_platform.waves schedule (omega arith) (omega arith)
+pub returns-clause-run : goal.returns-clause-run
+returns-clause-run c = λ t1 t2 visits ops waves handlers image schedule h l. every_run t1 t2 visits ops waves handlers image schedule h l
 
-pub returns-clause-one_processor : goal.returns-clause-one_processor
-returns-clause-one_processor c = λ t1 t2 visits ops waves schedule h l. every_run t1 t2 visits ops waves schedule h l
+pub returns-clause-after : goal.returns-clause-after
+returns-clause-after c = λ t1 t2 visits ops waves handlers image schedule h l. every_last t1 t2 visits ops waves handlers image schedule h l
+
+pub returns-clause-resumed : goal.returns-clause-resumed
+returns-clause-resumed c = resumed_is_last
