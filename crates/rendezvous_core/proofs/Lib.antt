@@ -4,3 +4,5 @@ pub mod Processor
 pub mod Chipset
 pub mod Runs
 pub mod Resuming
+pub mod ChairLemmas
+pub mod WordMapLemmas

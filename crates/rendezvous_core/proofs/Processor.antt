@@ -15,7 +15,9 @@ use Rattle.cpu_regs.specs.Entering.{saved}
 use Rattle.rendezvous_core.specs.Platform.{Platform, Wave, Handler, with_one, no_cause}
 use Rattle.rendezvous_core.specs.Protocol.{row_by_rest, image_taken}
 use Rattle.rendezvous_core.specs.Service.{write_status, image_on}
-use Rattle.rendezvous_core.specs.Serving.{ServingStep, Say, Do, serving_steps}
+use Rattle.rendezvous_core.specs.declared.serving.ServingStep.{ServingStep}
+use Rattle.rendezvous_core.specs.declared.serving.ServingStep.TheVariants.{Say, Do}
+use Rattle.rendezvous_core.specs.Serving.{serving_steps}
 use Rattle.rendezvous_core.specs.Worlds.{step, World}
 use Rattle.rendezvous_core.specs.Machine.{Machine, operation}
 use Rattle.rendezvous_core.proofs.Shape.{Shape, Holds, IsFine, Kept, world_at, machine_at, ProcessorFits, ChipsetFits, SignalFits, IsSaying}

@@ -5,9 +5,12 @@ use Rattle.smm_base.specs.declared.status.Status.{Status}
 use Rattle.smm_base.specs.declared.status.Status.TheVariants.{Success}
 use Rattle.sync_words.specs.declared.label.Label.{Label}
 use Rattle.sync_words.specs.declared.label.Label.TheVariants as label
-use Rattle.rendezvous_core.specs.Platform.{Platform, Handler, Operation, wave_at, manage_in}
+use Rattle.rendezvous_core.specs.declared.serving.Operation.{Operation}
+use Rattle.rendezvous_core.specs.Platform.{Platform, Handler, wave_at, manage_in}
 use Rattle.rendezvous_core.specs.Answer.{answer_of}
-use Rattle.rendezvous_core.specs.Serving.{ServingStep, Say, Do, Rest, Part, Exactly, InUnit, FitsWrite, Writing, Operations, Calling, Calls, Walk, Entries, same_kind, ends_walk, by_test, IsWholeServing, IsServingPrefix, unit_steps, operation_steps, step_test, call_steps, entry_steps, serving_steps}
+use Rattle.rendezvous_core.specs.declared.serving.ServingStep.{ServingStep}
+use Rattle.rendezvous_core.specs.declared.serving.ServingStep.TheVariants.{Say, Do}
+use Rattle.rendezvous_core.specs.Serving.{Rest, Part, Exactly, InUnit, FitsWrite, Writing, Operations, Calling, Calls, Walk, Entries, same_kind, ends_walk, by_test, IsWholeServing, IsServingPrefix, unit_steps, operation_steps, step_test, call_steps, entry_steps, serving_steps}
 
 -- the label is one that the step says
 abbrev pub Says : ServingStep → Label → Type 0

@@ -13,7 +13,8 @@ use Rattle.rendezvous_core.specs.Platform.{Platform}
 use Rattle.rendezvous_core.specs.Protocol.{Chair, Cpu, Seat}
 use Rattle.save_state_map.specs.Images.{ImageContents}
 use Rattle.cpu_regs.specs.Registers.{Registers}
-use Rattle.rendezvous_core.specs.Serving.{ServingStep, serving_steps}
+use Rattle.rendezvous_core.specs.declared.serving.ServingStep.{ServingStep}
+use Rattle.rendezvous_core.specs.Serving.{serving_steps}
 use Rattle.rendezvous_core.proofs.Said.{Spoken}
 use Rattle.rendezvous_core.specs.Worlds.{World}
 use Rattle.rendezvous_core.specs.Machine.{Machine, Member, Session, Rule, effect}

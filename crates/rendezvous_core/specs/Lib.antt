@@ -1,7 +1,10 @@
 pub mod Answer
+pub mod ChairInside
 pub mod Machine
 pub mod Platform
 pub mod Protocol
 pub mod Service
 pub mod Serving
+pub mod ServingInside
+pub mod WordMap
 pub mod Worlds

@@ -15,7 +15,8 @@ use Rattle.sync_words.specs.declared.label.Label.{Label}
 use Rattle.sync_words.specs.declared.label.Label.TheVariants as label
 use Rattle.rendezvous_core.specs.declared.phase.Phase.{Phase}
 use Rattle.rendezvous_core.specs.declared.phase.Phase.TheVariants.{Out, In, Counted, Here, Gone, Off}
-use Rattle.rendezvous_core.specs.Platform.{Platform, Operation, wave_at, blocked_in, no_cause}
+use Rattle.rendezvous_core.specs.declared.serving.Operation.{Operation}
+use Rattle.rendezvous_core.specs.Platform.{Platform, wave_at, blocked_in, no_cause}
 use Rattle.rendezvous_core.specs.Service.{write_status, image_on}
 use Rattle.rendezvous_core.specs.Serving.{IsWholeServing, IsServingPrefix}
 

@@ -4,7 +4,7 @@ use Rattle.std.specs.List.{count_by}
 use Rattle.smm_base.specs.declared.kinds.Cause.{Cause}
 use Rattle.smm_base.specs.declared.kinds.HandlerType.{HandlerType}
 use Rattle.smm_base.specs.declared.kinds.HandlerType.TheVariants.{Root}
-use Rattle.smm_base.specs.declared.registers.Register.{Register}
+use Rattle.rendezvous_core.specs.declared.serving.Operation.{Operation}
 use Rattle.smm_base.specs.declared.registers.Register.TheVariants.{Rax}
 use Rattle.smm_base.specs.declared.status.Status.{Status}
 use Rattle.smm_base.specs.declared.status.Status.TheVariants.{Success}
@@ -15,13 +15,6 @@ use Rattle.rendezvous_core.specs.declared.phase.Arrival.TheVariants.{Prompt, Del
 pub record Wave : Type 0 where
   pub status : List Arrival
   pub manage : List HandlerType
-
--- A handler's operation: a write of a register of a processor's image, as many low bytes of the value as the width says.
-pub record Operation : Type 0 where
-  pub cpu : ℕ
-  pub register : Register
-  pub width : ℕ
-  pub value : ℕ
 
 -- a handler: the list that it is registered on, what it answers, and its operations
 pub record Handler : Type 0 where

@@ -22,9 +22,12 @@ use Rattle.sync_words.specs.declared.label.Label.{Label}
 use Rattle.sync_words.specs.declared.label.Label.TheVariants as label
 use Rattle.sync_words.specs.declared.row.Row.{Row}
 use Rattle.sync_words.specs.declared.row.Row.TheVariants.{AwaitSmi, SwitchOff, LookAtSource, LookAtInside, CountIn, ClaimBsp, AwaitBsp, MarkInside, TakeSource, LookAtExcept, GatherFirst, GatherSecond, MarkInsync, LockCounter, Serve, LeaveInside, GiveBsp, LeaveInsync, UnlockCounter, AwaitSessionEnd, ClearSignal, AnnounceBlocked, AnnounceWave, RaiseWave, WatchSource, AwaitServed, RaiseOff}
-use Rattle.rendezvous_core.specs.Platform.{Platform, Operation, wave_at, blocked_in, signal_at, no_cause}
+use Rattle.rendezvous_core.specs.declared.serving.Operation.{Operation}
+use Rattle.rendezvous_core.specs.Platform.{Platform, wave_at, blocked_in, signal_at, no_cause}
 use Rattle.rendezvous_core.specs.Service.{write_status, image_on}
-use Rattle.rendezvous_core.specs.Serving.{ServingStep, Say, Do, serving_steps}
+use Rattle.rendezvous_core.specs.declared.serving.ServingStep.{ServingStep}
+use Rattle.rendezvous_core.specs.declared.serving.ServingStep.TheVariants.{Say, Do}
+use Rattle.rendezvous_core.specs.Serving.{serving_steps}
 
 -- The chair of the boot processor: the steps of the session's serving that are still to be taken.
 pub record Chair : Type 0 where

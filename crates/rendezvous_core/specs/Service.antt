@@ -6,7 +6,7 @@ use Rattle.smm_base.specs.declared.registers.Register.{Register}
 use Rattle.smm_base.specs.declared.registers.Register.TheVariants.{Rax}
 use Rattle.save_state_map.specs.declared.field.Field.TheVariants as field
 use Rattle.save_state_map.specs.Images.{ImageContents, with_field}
-use Rattle.rendezvous_core.specs.Platform.{Operation}
+use Rattle.rendezvous_core.specs.declared.serving.Operation.{Operation}
 
 -- the status of the write of a register
 abbrev pub status_at : Register → ImageContents → Status

@@ -8,7 +8,10 @@ use Rattle.smm_base.specs.declared.kinds.HandlerType.TheVariants.{Root, Typed}
 use Rattle.smm_base.specs.declared.status.Status.{Status}
 use Rattle.sync_words.specs.declared.label.Label.{Label}
 use Rattle.sync_words.specs.declared.label.Label.TheVariants as label
-use Rattle.rendezvous_core.specs.Platform.{Platform, Handler, Operation, wave_at, manage_in}
+use Rattle.rendezvous_core.specs.declared.serving.Operation.{Operation}
+use Rattle.rendezvous_core.specs.declared.serving.ServingStep.{ServingStep}
+use Rattle.rendezvous_core.specs.declared.serving.ServingStep.TheVariants.{Say, Do}
+use Rattle.rendezvous_core.specs.Platform.{Platform, Handler, wave_at, manage_in}
 use Rattle.rendezvous_core.specs.Answer.{answer_of, stops}
 
 -- what may stand in the rest of the list, with so many units left
@@ -96,9 +99,6 @@ abbrev pub IsServingPrefix : Platform → ℕ → List Label → Type 0
 IsServingPrefix p w es = (more : List Label) × IsWholeServing p w (es ++ more)
 
 -- The protocol's steps: a label that is known from the start, or a write, whose label shows its status.
-pub data ServingStep : Type 0 where
-  Say : Label → ServingStep
-  Do : Operation → ServingStep
 
 -- a unit is begun; where none is left, `spent` is the last step
 abbrev pub unit_steps : ℕ → (ℕ → List ServingStep) → List ServingStep
