@@ -14,8 +14,7 @@ announce_blocked : (a b v o : ℕ) (ws : List Wave) (hs : List Handler) (r : Opt
 announce_blocked a b v o ws hs r x h =
     let p : Platform = with_one a b v o ws hs in
     let e : x.next_wave ≡ x.waves + 1 = h.chipset.1 in
-    let x' : Shape = record x { except = blocked_in (wave_at p x.next_wave) } in
-    (
+    let x' : Shape = record x { except = blocked_in (wave_at p x.next_wave) } in (
       refl,
       (refl, h.chipset.0, refl, ap (λ (n : ℕ). blocked_in (wave_at p n)) e),
       fine p r (Some AnnounceWave) x' (record { processor = h.processor; chipset = h.chipset; signal = h.signal }),
@@ -29,8 +28,7 @@ announce_wave a b v o ws hs r x h =
     let s = h.signal in
     let more : (n : ℕ) → x.waves + 1 ≡ n → Kept p (machine_at r (Some AnnounceWave) (record x { next_wave = n })) 1 (step p (world_at r (Some AnnounceWave) (record x { next_wave = n })) 1) = λ n k.
     let P : ℕ → Type 0 = λ (y : ℕ). Kept p (machine_at r (Some AnnounceWave) (record x { next_wave = y })) 1 (step p (world_at r (Some AnnounceWave) (record x { next_wave = y })) 1) in
-    subst P k
-    (
+    subst P k (
       refl,
       (refl, l, refl, refl),
       fine p r (Some (RaiseWave 0)) (record x { next_wave = x.waves + 1; waves = x.waves + 1; source = x.waves + 1 }) (record {
@@ -75,8 +73,7 @@ raise_wave a b v o ws hs r x h =
     ⊎_elim
     (λ (y : x.pend % 8 ≡ 1). simp (ne_eqb (x.pend % 8) 4 z, eq-eqb (x.pend % 8) 1 y) (fine p r (Some (RaiseWave 0)) x h))
     (λ (y : x.pend % 8 ≢ 1).
-    simp (ne_eqb (x.pend % 8) 4 z, ne_eqb (x.pend % 8) 1 y)
-    (
+    simp (ne_eqb (x.pend % 8) 4 z, ne_eqb (x.pend % 8) 1 y) (
       refl,
       tt,
       fine p r (Some (WatchSource 0)) (record x { pend = x.pend - x.pend % 8 + to }) (record {
@@ -138,8 +135,7 @@ raise_off a b v o ws hs r x h =
     ⊎_elim
     (λ (y : x.pend % 8 ≡ 1). simp (ne_eqb (x.pend % 8) 4 z, eq-eqb (x.pend % 8) 1 y) (fine p r (Some (RaiseOff 0)) x h))
     (λ (y : x.pend % 8 ≢ 1).
-    simp (ne_eqb (x.pend % 8) 4 z, ne_eqb (x.pend % 8) 1 y)
-    (
+    simp (ne_eqb (x.pend % 8) 4 z, ne_eqb (x.pend % 8) 1 y) (
       refl,
       tt,
       fine p r None (record x { pend = x.pend - x.pend % 8 + 4 }) (record {

@@ -6,3 +6,4 @@ pub mod Runs
 pub mod Resuming
 pub mod ChairLemmas
 pub mod WordMapLemmas
+pub mod SeatLemmas

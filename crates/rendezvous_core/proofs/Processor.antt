@@ -92,8 +92,7 @@ lock_counter a b v o ws hs c x h =
 leave_inside_with : (a b v o : ℕ) (ws : List Wave) (hs : List Handler) (c : Option Row) (x : Shape) (said : List Label) → At a b v o ws hs 0 (Some LeaveInside) c (record x { said = said })
 leave_inside_with a b v o ws hs c x [] h = absurd h.processor.1
 leave_inside_with a b v o ws hs c x (l ∷ said) h =
-    let p : Platform = with_one a b v o ws hs in
-    (
+    let p : Platform = with_one a b v o ws hs in (
       refl,
       ((refl, (refl, said_whole p x.wave (l ∷ said) h.processor.1, refl)), λ j l q. absurd (omega arith)),
       fine p (Some GiveBsp) c (record x { said = l ∷ said }) (record { processor = h.processor.0; chipset = h.chipset; signal = h.signal }),
@@ -111,12 +110,11 @@ leave_insync a b v o ws hs c x h =
     (refl, tt, fine (with_one a b v o ws hs) (Some UnlockCounter) c x (record { processor = h.processor; chipset = h.chipset; signal = h.signal }))
 
 unlock_counter : (a b v o : ℕ) (ws : List Wave) (hs : List Handler) (c : Option Row) (x : Shape) → At a b v o ws hs 0 (Some UnlockCounter) c x
-unlock_counter a b v o ws hs c x h =
-    (
-      refl,
-      ((refl, refl), λ j l q. absurd (omega arith)),
-      fine (with_one a b v o ws hs) (Some AwaitSessionEnd) c (record x { said = [] }) (record { processor = (h.processor, refl); chipset = h.chipset; signal = h.signal }),
-    )
+unlock_counter a b v o ws hs c x h = (
+  refl,
+  ((refl, refl), λ j l q. absurd (omega arith)),
+  fine (with_one a b v o ws hs) (Some AwaitSessionEnd) c (record x { said = [] }) (record { processor = (h.processor, refl); chipset = h.chipset; signal = h.signal }),
+)
 
 await_session_end : (a b v o : ℕ) (ws : List Wave) (hs : List Handler) (c : Option Row) (x : Shape) → At a b v o ws hs 0 (Some AwaitSessionEnd) c x
 await_session_end a b v o ws hs c x h =
@@ -124,8 +122,7 @@ await_session_end a b v o ws hs c x h =
 
 switch_off : (a b v o : ℕ) (ws : List Wave) (hs : List Handler) (c : Option Row) (x : Shape) → At a b v o ws hs 0 (Some SwitchOff) c x
 switch_off a b v o ws hs c x h =
-    let s = h.signal in
-    (
+    let s = h.signal in (
       refl,
       (refl, inr h.processor),
       fine (with_one a b v o ws hs) None c (record x { pend = 4 }) (record {
@@ -187,8 +184,7 @@ do_write a b v o ws hs c x first said one taken zero register width value rest h
     let m : ImageContents = image_on status x.image (operation 0 register width value) in
     let fits : Spoken (y ∷ []) (l ∷ []) = ((refl, refl, refl, refl), tt) in
     let fine' = after_label a b v o ws hs c x m first (said ++ l ∷ []) ((one ∷ taken) ++ y ∷ []) rest h.processor.0 h.chipset h.signal (grown (one ∷ taken) rest y p x.wave facts.0) (spoken_append (one ∷ taken) (y ∷ []) (first ∷ said) (l ∷ []) facts.1 fits) y in
-    let P : World → Type 0 = λ (u : World). IsFine p u (machine_at (Some Serve) c (record x { said = first ∷ (said ++ l ∷ []); taken = (one ∷ taken) ++ y ∷ []; rest = rest; image = m })) in
-    (
+    let P : World → Type 0 = λ (u : World). IsFine p u (machine_at (Some Serve) c (record x { said = first ∷ (said ++ l ∷ []); taken = (one ∷ taken) ++ y ∷ []; rest = rest; image = m })) in (
       refl,
       ((refl, said_prefix p x.wave (one ∷ taken) rest (first ∷ said) y l facts.0 facts.1 (refl, refl, refl, refl)), (refl, refl)),
       subst P (stepped_world a b v o ws hs c x (first ∷ said) (one ∷ taken) ((one ∷ taken) ++ y ∷ []) m (first ∷ (said ++ l ∷ [])) y rest refl) fine',
@@ -217,8 +213,7 @@ say_of_walk a b v o ws hs c x first said one taken (Say (label.Manage kind)) res
     let facts = h.processor.1 in
     let l : Label = label.Manage kind in
     let fine' = after_label a b v o ws hs c x x.image first (said ++ l ∷ []) ((one ∷ taken) ++ Say l ∷ []) rest h.processor.0 h.chipset h.signal (grown (one ∷ taken) rest (Say l) p x.wave facts.0) (spoken_append (one ∷ taken) (Say l ∷ []) (first ∷ said) (l ∷ []) facts.1 (refl, tt)) (Say l) in
-    let P : World → Type 0 = λ (u : World). IsFine p u (machine_at (Some Serve) c (record x { said = first ∷ (said ++ l ∷ []); taken = (one ∷ taken) ++ Say l ∷ []; rest = rest })) in
-    (
+    let P : World → Type 0 = λ (u : World). IsFine p u (machine_at (Some Serve) c (record x { said = first ∷ (said ++ l ∷ []); taken = (one ∷ taken) ++ Say l ∷ []; rest = rest })) in (
       refl,
       (refl, said_prefix p x.wave (one ∷ taken) rest (first ∷ said) (Say l) l facts.0 facts.1 refl),
       subst P (stepped_world a b v o ws hs c x (first ∷ said) (one ∷ taken) ((one ∷ taken) ++ Say l ∷ []) x.image (first ∷ (said ++ l ∷ [])) (Say l) rest refl) fine',
@@ -228,8 +223,7 @@ say_of_walk a b v o ws hs c x first said one taken (Say (label.Call n)) rest t h
     let facts = h.processor.1 in
     let l : Label = label.Call n in
     let fine' = after_label a b v o ws hs c x x.image first (said ++ l ∷ []) ((one ∷ taken) ++ Say l ∷ []) rest h.processor.0 h.chipset h.signal (grown (one ∷ taken) rest (Say l) p x.wave facts.0) (spoken_append (one ∷ taken) (Say l ∷ []) (first ∷ said) (l ∷ []) facts.1 (refl, tt)) (Say l) in
-    let P : World → Type 0 = λ (u : World). IsFine p u (machine_at (Some Serve) c (record x { said = first ∷ (said ++ l ∷ []); taken = (one ∷ taken) ++ Say l ∷ []; rest = rest })) in
-    (
+    let P : World → Type 0 = λ (u : World). IsFine p u (machine_at (Some Serve) c (record x { said = first ∷ (said ++ l ∷ []); taken = (one ∷ taken) ++ Say l ∷ []; rest = rest })) in (
       refl,
       (refl, said_prefix p x.wave (one ∷ taken) rest (first ∷ said) (Say l) l facts.0 facts.1 refl),
       subst P (stepped_world a b v o ws hs c x (first ∷ said) (one ∷ taken) ((one ∷ taken) ++ Say l ∷ []) x.image (first ∷ (said ++ l ∷ [])) (Say l) rest refl) fine',
@@ -239,8 +233,7 @@ say_of_walk a b v o ws hs c x first said one taken (Say (label.Return n status))
     let facts = h.processor.1 in
     let l : Label = label.Return n status in
     let fine' = after_label a b v o ws hs c x x.image first (said ++ l ∷ []) ((one ∷ taken) ++ Say l ∷ []) rest h.processor.0 h.chipset h.signal (grown (one ∷ taken) rest (Say l) p x.wave facts.0) (spoken_append (one ∷ taken) (Say l ∷ []) (first ∷ said) (l ∷ []) facts.1 (refl, tt)) (Say l) in
-    let P : World → Type 0 = λ (u : World). IsFine p u (machine_at (Some Serve) c (record x { said = first ∷ (said ++ l ∷ []); taken = (one ∷ taken) ++ Say l ∷ []; rest = rest })) in
-    (
+    let P : World → Type 0 = λ (u : World). IsFine p u (machine_at (Some Serve) c (record x { said = first ∷ (said ++ l ∷ []); taken = (one ∷ taken) ++ Say l ∷ []; rest = rest })) in (
       refl,
       (refl, said_prefix p x.wave (one ∷ taken) rest (first ∷ said) (Say l) l facts.0 facts.1 refl),
       subst P (stepped_world a b v o ws hs c x (first ∷ said) (one ∷ taken) ((one ∷ taken) ++ Say l ∷ []) x.image (first ∷ (said ++ l ∷ [])) (Say l) rest refl) fine',
@@ -250,8 +243,7 @@ say_of_walk a b v o ws hs c x first said one taken (Say (label.Answer status)) r
     let facts = h.processor.1 in
     let l : Label = label.Answer status in
     let fine' = after_label a b v o ws hs c x x.image first (said ++ l ∷ []) ((one ∷ taken) ++ Say l ∷ []) rest h.processor.0 h.chipset h.signal (grown (one ∷ taken) rest (Say l) p x.wave facts.0) (spoken_append (one ∷ taken) (Say l ∷ []) (first ∷ said) (l ∷ []) facts.1 (refl, tt)) (Say l) in
-    let P : World → Type 0 = λ (u : World). IsFine p u (machine_at (Some Serve) c (record x { said = first ∷ (said ++ l ∷ []); taken = (one ∷ taken) ++ Say l ∷ []; rest = rest })) in
-    (
+    let P : World → Type 0 = λ (u : World). IsFine p u (machine_at (Some Serve) c (record x { said = first ∷ (said ++ l ∷ []); taken = (one ∷ taken) ++ Say l ∷ []; rest = rest })) in (
       refl,
       (refl, said_prefix p x.wave (one ∷ taken) rest (first ∷ said) (Say l) l facts.0 facts.1 refl),
       subst P (stepped_world a b v o ws hs c x (first ∷ said) (one ∷ taken) ((one ∷ taken) ++ Say l ∷ []) x.image (first ∷ (said ++ l ∷ [])) (Say l) rest refl) fine',
@@ -261,8 +253,7 @@ say_of_walk a b v o ws hs c x first said one taken (Say (label.Spent)) rest t h 
     let facts = h.processor.1 in
     let l : Label = label.Spent in
     let fine' = after_label a b v o ws hs c x x.image first (said ++ l ∷ []) ((one ∷ taken) ++ Say l ∷ []) rest h.processor.0 h.chipset h.signal (grown (one ∷ taken) rest (Say l) p x.wave facts.0) (spoken_append (one ∷ taken) (Say l ∷ []) (first ∷ said) (l ∷ []) facts.1 (refl, tt)) (Say l) in
-    let P : World → Type 0 = λ (u : World). IsFine p u (machine_at (Some Serve) c (record x { said = first ∷ (said ++ l ∷ []); taken = (one ∷ taken) ++ Say l ∷ []; rest = rest })) in
-    (
+    let P : World → Type 0 = λ (u : World). IsFine p u (machine_at (Some Serve) c (record x { said = first ∷ (said ++ l ∷ []); taken = (one ∷ taken) ++ Say l ∷ []; rest = rest })) in (
       refl,
       (refl, said_prefix p x.wave (one ∷ taken) rest (first ∷ said) (Say l) l facts.0 facts.1 refl),
       subst P (stepped_world a b v o ws hs c x (first ∷ said) (one ∷ taken) ((one ∷ taken) ++ Say l ∷ []) x.image (first ∷ (said ++ l ∷ [])) (Say l) rest refl) fine',
@@ -276,8 +267,7 @@ say_begin a b v o ws hs c x rest h =
     let p : Platform = with_one a b v o ws hs in
     let l : Label = label.Begin x.wave in
     let fine' = after_label a b v o ws hs c x x.image l [] (Say l ∷ []) rest h.processor.0 h.chipset h.signal h.processor.1.0 (refl, tt) (Say l) in
-    let P : World → Type 0 = λ (u : World). IsFine p u (machine_at (Some Serve) c (record x { said = l ∷ []; taken = Say l ∷ []; rest = rest })) in
-    (
+    let P : World → Type 0 = λ (u : World). IsFine p u (machine_at (Some Serve) c (record x { said = l ∷ []; taken = Say l ∷ []; rest = rest })) in (
       refl,
       ((refl, (refl, refl, refl)), λ j l q. absurd (omega arith)),
       subst P (stepped_world a b v o ws hs c x [] [] (Say l ∷ []) x.image (l ∷ []) (Say l) rest refl) fine',
@@ -302,8 +292,7 @@ await_with : (a b v o : ℕ) (ws : List Wave) (hs : List Handler) (c : Option Ro
 await_with a b v o ws hs c x zero h = fine (with_one a b v o ws hs) (Some AwaitSmi) c (record x { pend = 0 }) h
 await_with a b v o ws hs c x (suc zero) h =
     let s = h.signal in
-    let bound : x.visits + 1 ≤ v = omega (arith, h.processor.0) in
-    (
+    let bound : x.visits + 1 ≤ v = omega (arith, h.processor.0) in (
       refl,
       (refl, h.processor.0, s.deliverable refl),
       fine (with_one a b v o ws hs) (Some LookAtSource) c (record x { pend = 8; visits = x.visits + 1; image = saved x.registers no_cause x.image }) (record {
@@ -315,8 +304,7 @@ await_with a b v o ws hs c x (suc zero) h =
 await_with a b v o ws hs c x (suc (suc zero)) h = fine (with_one a b v o ws hs) (Some AwaitSmi) c (record x { pend = 2 }) h
 await_with a b v o ws hs c x (suc (suc (suc zero))) h = fine (with_one a b v o ws hs) (Some AwaitSmi) c (record x { pend = 3 }) h
 await_with a b v o ws hs c x (suc (suc (suc (suc zero)))) h =
-    let s = h.signal in
-    (
+    let s = h.signal in (
       refl,
       (refl, inl (s.off refl refl)),
       fine (with_one a b v o ws hs) None c (record x { pend = 4 }) (record {

@@ -3,8 +3,10 @@ pub mod ChairInside
 pub mod Machine
 pub mod Platform
 pub mod Protocol
+pub mod SeatInside
 pub mod Service
 pub mod Serving
 pub mod ServingInside
 pub mod WordMap
+pub mod WorldInside
 pub mod Worlds

@@ -1,7 +1,7 @@
 -- The protocol as a table: for each row the word that is wanted, the access, the hand, and by the number found the
 -- label, the next row and what the actor keeps. The rows are those that one processor and the chipset meet. On such
 -- a platform each loop over other processors is empty, and so its rows are passed over.
-use Rattle.std.specs.Prelude.{ℕ, zero, suc, ◌+◌, ◌==◌, nat_le, nat_lt, nat_eq, Bool, true, false, ◌&&◌, if◌then◌else◌, List, [], ◌∷◌, length, Option, Some, None, drop}
+use Rattle.std.specs.Prelude.{ℕ, zero, suc, ◌+◌, ◌==◌, nat_le, nat_lt, nat_eq, Bool, true, false, ◌&&◌, if◌then◌else◌, List, [], ◌∷◌, length, Option, Some, None, drop, slice_get}
 use Rattle.std.specs.Option.{option_map}
 use Rattle.smm_base.specs.declared.kinds.After.{After}
 use Rattle.smm_base.specs.declared.kinds.After.TheVariants.{Next}
@@ -137,14 +137,18 @@ said_by me cpu (Say l) = l
 said_by me cpu (Do o) =
     label.Write o.cpu o.register o.width o.value (own_write_status me o cpu)
 
+-- the next step of the serving
+abbrev pub step_in : Option Chair → Option ServingStep
+step_in None = None
+step_in (Some c) = slice_get c.steps 0
+
 -- what the boot processor says next
-abbrev pub first_said : ℕ → Option Cpu → List ServingStep → Label
-first_said me cpu [] = label.Silent
-first_said me cpu (x ∷ xs) = said_by me cpu x
+abbrev pub said_next : ℕ → Option Cpu → Option ServingStep → Label
+said_next me cpu None = label.Silent
+said_next me cpu (Some x) = said_by me cpu x
 
 abbrev pub next_said : ℕ → Option Cpu → Option Chair → Label
-next_said me cpu None = label.Silent
-next_said me cpu (Some c) = first_said me cpu c.steps
+next_said me cpu chair = said_next me cpu (step_in chair)
 
 -- how a processor goes on after it resumes
 abbrev pub resumes_by : Option Cpu → After
@@ -245,22 +249,22 @@ abbrev pub visits_after : Seat → Row → ℕ → ℕ
 visits_after s AwaitSmi found = if found == 1 then s.visits + 1 else s.visits
 visits_after s _ found = s.visits
 
-abbrev pub source_after : Seat → Row → ℕ → ℕ
-source_after s LookAtSource found = found
-source_after s _ found = s.source
+abbrev pub source_after : ℕ → Row → ℕ → ℕ
+source_after was LookAtSource found = found
+source_after was _ found = was
 
-abbrev pub inside_after : Seat → Row → ℕ → ℕ
-inside_after s LookAtInside found = found
-inside_after s _ found = s.inside
+abbrev pub inside_after : ℕ → Row → ℕ → ℕ
+inside_after was LookAtInside found = found
+inside_after was _ found = was
 
 abbrev pub wave_after : Seat → Row → ℕ → ℕ
 wave_after s TakeSource found = found
 wave_after s AwaitServed found = s.wave + 1
 wave_after s _ found = s.wave
 
-abbrev pub blocked_after : Seat → Row → ℕ → ℕ
-blocked_after s LookAtExcept found = found
-blocked_after s _ found = s.blocked
+abbrev pub blocked_after : ℕ → Row → ℕ → ℕ
+blocked_after was LookAtExcept found = found
+blocked_after was _ found = was
 
 -- the chair as a session's serving begins, and after one step more was taken
 abbrev pub begun : Platform → ℕ → Chair
@@ -280,13 +284,12 @@ abbrev pub image_taken : ℕ → ServingStep → ImageContents → ImageContents
 image_taken me (Say l) m = m
 image_taken me (Do o) m = if o.cpu == me then image_on (write_status m o) m o else m
 
-abbrev pub first_taken : ℕ → List ServingStep → Cpu → Cpu
-first_taken me [] c = c
-first_taken me (x ∷ xs) c = record c { image = image_taken me x c.image }
+abbrev pub taken_next : ℕ → Option ServingStep → Cpu → Cpu
+taken_next me None c = c
+taken_next me (Some x) c = record c { image = image_taken me x c.image }
 
 abbrev pub served_cpu : ℕ → Option Chair → Cpu → Cpu
-served_cpu me None c = c
-served_cpu me (Some k) c = first_taken me k.steps c
+served_cpu me chair c = taken_next me (step_in chair) c
 
 -- the processor as it enters, which saves its registers, and as it resumes, which loads them
 abbrev pub entered_cpu : Cpu → Cpu
@@ -306,10 +309,10 @@ seat_after p me s r found =
     record {
       row = row_after p s r found;
       visits = visits_after s r found;
-      source = source_after s r found;
-      inside = inside_after s r found;
+      source = source_after s.source r found;
+      inside = inside_after s.inside r found;
       wave = wave_after s r found;
-      blocked = blocked_after s r found;
+      blocked = blocked_after s.blocked r found;
       chair = chair_after p s.wave s.chair r;
       cpu = cpu_after me s.chair s.cpu r found;
     }

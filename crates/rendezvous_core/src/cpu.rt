@@ -74,6 +74,18 @@ impl Cpu {
         self.last = self.image;
     }
 
+    /// The status of a write of its image, which stays.
+    pub fn write_status(&self, operation: Operation) -> Status
+        ensures { result ≡ write_status self.now.image operation }
+    {
+        Status::Unsupported
+    }
+
+    /// A write of its image. Where the status isn't `Success`, the image stays.
+    pub fn write(&mut self, operation: Operation)
+        ensures { self.new ≡ record self.old { image = image_on (write_status self.old.image operation) self.old.image operation } }
+    {}
+
     /// The image that it last resumed from, or its first.
     pub fn last(&self) -> &Image
         ensures { result.now ≡ self.now.last }

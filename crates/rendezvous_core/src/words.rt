@@ -34,6 +34,7 @@ impl Words {
         self.values.get(&word).copied().unwrap_or(0)
     }
 }
+
 impl Words {
     /// Every word as it is before any event.
     pub fn start(alloc: Global) -> Result<Words, AllocError>

@@ -1,0 +1,35 @@
+-- The turn of the one actor is the step of the world.
+use Rattle.std.proofs.Common.{◌≡◌, [], ◌∷◌, sym, subst, ap, ◌∙◌}
+use Rattle.rendezvous_core.specs.Platform.{the_platform}
+use Rattle.rendezvous_core.specs.Protocol.{Seat}
+use Rattle.rendezvous_core.specs.SeatInside.{IsChipsetRow}
+use Rattle.rendezvous_core.specs.Worlds.{Replay, step}
+use Rattle.rendezvous_core.specs.WorldInside.{replay_of}
+use Rattle.rendezvous_core.proofs.SeatLemmas.{turn_stays}
+use Rattle.rendezvous_core.proofs.world.World.step_chipset.Goals as goal
+
+pub returns-clause-stepped : goal.returns-clause-stepped
+returns-clause-stepped c = c.take_turn.ensures.stepped ∙ ap (λ (r : Replay). (step (the_platform r.value) r.world 1).0) c.self.view_is
+
+pub returns-clause-world : goal.returns-clause-world
+returns-clause-world c =
+    let e = c.take_turn.ensures in
+    let moved : Replay = record (replay_of c.self.inside) { world = (step (the_platform c.self.inside.value) (replay_of c.self.inside).world 1).1 } in
+    let built : record {
+      value = c.self.inside.value;
+      world = record { words = c.take_turn.new.words; chair = c.take_turn.new.lying; seats = c.self.inside.processor ∷ c.take_turn.new.seat ∷ [] };
+      events = c.self.inside.events.items;
+      room = c.self.inside.room;
+    } ≡ moved = λ t. record {
+      value = c.self.inside.value;
+      world = record { words = e.words t; chair = e.chair t; seats = c.self.inside.processor ∷ e.seat t ∷ [] };
+      events = c.self.inside.events.items;
+      room = c.self.inside.room;
+    } in
+    built ∙ ap (λ (r : Replay). record r { world = (step (the_platform r.value) r.world 1).1 }) c.self.view_is
+
+pub invariant_of-self : goal.invariant_of-self
+invariant_of-self c =
+    let e = c.take_turn.ensures in
+    let stays = turn_stays c.self.inside.value c.self.inside.words c.self.inside.lying c.self.inside.chipset c.self.invariant.chipset in
+    record { chipset = subst (λ (s : Seat). IsChipsetRow s.row) (sym e.seat) stays; room = c.self.invariant.room }
