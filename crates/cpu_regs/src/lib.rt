@@ -1,0 +1,13 @@
+// The registers of a processor: kept, saved into an image at an SMI, and loaded from it at a resume.
+#![tactic(auto)]
+
+mod laws;
+mod regs;
+mod switch;
+
+pub use laws::switch_laws;
+pub use regs::Regs;
+pub use switch::{enter, resume};
+
+#[cfg(test)]
+mod tests;
