@@ -1,17 +1,15 @@
 -- A file without refusal spells the images that are read from it, and no others.
-use Rattle.std.proofs.Common.{◌≡◌, ℕ, suc, ◌+◌, ◌*◌, ◌^◌, ◌<◌, ◌≤◌, true, List, [], ◌∷◌, ◌++◌, length, get_or, take, drop, All, Option, None, refl, sym, ap, subst, ◌∙◌, arith}
-use Rattle.std.specs.Prelude.{nat_eq}
-use Rattle.std.specs.List.{flat_map, AllByRecursion, starts_with}
-use Rattle.std.proofs.lemmas.List.{length-append, length-drop}
+use Rattle.std.proofs.Common.{◌≡◌, ℕ, ◌*◌, ◌≤◌, List, [], ◌∷◌, ◌++◌, length, drop, None, refl, sym, ap, ◌∙◌, arith}
+use Rattle.std.specs.List.{flat_map, AllByRecursion}
+use Rattle.std.proofs.lemmas.List.{length-drop}
 use Rattle.std.proofs.lemmas.List.Elements.{recursion_from_All, All-from_recursion}
-use Rattle.byteorder.specs.Endian.{little_number, little_bytes}
 use Rattle.byteorder.specs.Numbers.{little_number-reads_back}
 use Rattle.smm_base.specs.declared.kinds.MapKind.{MapKind}
 use Rattle.smm_base.specs.declared.kinds.MapKind.TheVariants.{Ia32, Intel64}
 use Rattle.save_state_map.specs.Fields.{image_length}
 use Rattle.save_state_map.specs.Images.{ImageContents, IsImage}
-use Rattle.image_file.specs.Spelling.{magic, kind_number, header, spelling, AreImages, IsSpelling}
-use Rattle.image_file.specs.Refusals.{version_of, kind_number_of, count_of, kind_numbered, whole_length, refusal_of}
+use Rattle.image_file.specs.Spelling.{header, spelling, AreImages, IsSpelling}
+use Rattle.image_file.specs.Refusals.{kind_number_of, count_of, kind_numbered, refusal_of}
 use Rattle.image_file.specs.Contents.{images_at}
 use Rattle.image_file.proofs.Headers.{IsBytes, Passes, passes_all, no_refusal, behind_header, drop_bytes}
 use Rattle.image_file.proofs.Sequence.{bytes_of, IsOf, images_at-length, images_at-of, images_at-bytes, images_back, length-bytes}

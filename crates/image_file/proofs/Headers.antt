@@ -1,16 +1,14 @@
 -- The header that a file without refusal has, and the checks that a spelling passes.
-use Rattle.std.proofs.Common.{◌≡◌, ℕ, zero, suc, ◌+◌, ◌*◌, ◌^◌, ◌<◌, ◌≤◌, Bool, true, false, cond, not, ◌||◌, eqb, ltb, List, [], ◌∷◌, ◌++◌, length, get_or, take, drop, Option, Some, None, refl, sym, ap, subst, ◌∙◌, append_assoc, inl, inr, arith}
+use Rattle.std.proofs.Common.{◌≡◌, ℕ, zero, suc, ◌+◌, ◌<◌, ◌≤◌, Bool, true, false, cond, not, ◌||◌, eqb, ltb, List, ◌++◌, length, get_or, take, drop, Option, Some, None, refl, sym, ap, ◌∙◌, inl, inr, arith}
 use Rattle.std.specs.Prelude.{nat_eq}
 use Rattle.std.specs.List.{starts_with}
-use Rattle.std.specs.Int.{w16, w32, from_le_bytes, to_le_bytes}
+use Rattle.std.specs.Int.{w16, w32, from_le_bytes}
 use Rattle.std.proofs.lemmas.Bool.{cases_lt, eqb-true, eq-eqb, ltb-false, le-ltb}
 use Rattle.std.proofs.lemmas.Bool.Decides.{Decides-eqb, eqb_tells}
 use Rattle.std.proofs.lemmas.List.{length-take-le, length-drop, get_or-take, get_or-drop, get_or_past, take-append-drop, drop-drop}
 use Rattle.std.proofs.lemmas.Nat.{le_bytes_2, le_bytes_4}
 use Rattle.std.proofs.lemmas.Slice.Eq.{starts_is}
 use Rattle.byteorder.specs.Endian.{little_number, little_bytes}
-use Rattle.smm_base.specs.declared.kinds.MapKind.{MapKind}
-use Rattle.smm_base.specs.declared.kinds.MapKind.TheVariants.{Ia32, Intel64}
 use Rattle.image_file.specs.declared.error.ImagesError.{ImagesError}
 use Rattle.image_file.specs.declared.error.ImagesError.TheVariants.{Short, Magic, Version, Kind, Count, Long}
 use Rattle.image_file.specs.Spelling.{magic, kind_number, header}

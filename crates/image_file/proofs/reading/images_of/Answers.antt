@@ -1,7 +1,6 @@
-use Rattle.std.proofs.Common.{◌≡◌, ℕ, List, ◌++◌, ◌∷◌, [], take, drop, length, ap, ◌∙◌, arith}
+use Rattle.std.proofs.Common.{◌≡◌, ℕ, List, take, drop, length, ap, ◌∙◌, arith}
 use Rattle.std.proofs.lemmas.Result.{IfOk-at_ok}
 use Rattle.save_state_map.specs.Fields.{image_length}
-use Rattle.save_state_map.specs.Images.{ImageContents}
 use Rattle.image_file.specs.Contents.{images_at}
 use Rattle.image_file.proofs.Sequence.{goes_on, ends, room}
 use Rattle.image_file.proofs.reading.images_of.Goals as goal

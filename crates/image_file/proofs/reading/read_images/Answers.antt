@@ -1,9 +1,9 @@
-use Rattle.std.proofs.Common.{◌≡◌, ℕ, ◌-◌, List, length, take, drop, Option, Some, None, refl, sym, ap, subst, ◌∙◌, arith}
+use Rattle.std.proofs.Common.{◌≡◌, ◌-◌, List, length, take, drop, sym, ap, subst, ◌∙◌, arith}
 use Rattle.std.proofs.lemmas.List.{take_rest}
-use Rattle.std.proofs.lemmas.Result.{IfOk-weaker, MatchResult-from_both, err_from_is_err_and}
+use Rattle.std.proofs.lemmas.Result.{IfOk-weaker, MatchResult-from_both}
 use Rattle.save_state_map.specs.Images.{ImageContents}
 use Rattle.image_file.specs.Spelling.{IsSpelling}
-use Rattle.image_file.specs.Refusals.{kind_number_of, kind_numbered, count_of, refusal_of}
+use Rattle.image_file.specs.Refusals.{kind_number_of, kind_numbered, count_of}
 use Rattle.image_file.specs.Contents.{images_at}
 use Rattle.image_file.proofs.Files.{is_spelling, spelling_unrefused, same_images}
 use Rattle.image_file.proofs.reading.read_images.Goals as goal

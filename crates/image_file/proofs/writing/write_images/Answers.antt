@@ -1,5 +1,4 @@
 use Rattle.std.proofs.Common.{◌≡◌, ◌<◌, ◌++◌, List, ℕ, length, get_or, ap, ◌∙◌}
-use Rattle.save_state_map.specs.Images.{ImageContents}
 use Rattle.image_file.specs.Spelling.{header}
 use Rattle.image_file.proofs.Sequence.{adds_image, all_images_more}
 use Rattle.image_file.proofs.writing.write_images.Goals as goal

@@ -1,0 +1,4 @@
+pub mod Table
+pub mod IoInfo
+pub mod Reading
+pub mod Writing
