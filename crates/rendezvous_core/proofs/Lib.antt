@@ -7,3 +7,4 @@ pub mod Resuming
 pub mod ChairLemmas
 pub mod WordMapLemmas
 pub mod SeatLemmas
+pub mod ServiceLemmas

@@ -1,14 +1,15 @@
 -- The rows of the chipset lead to rows of the chipset, and each row names a word that is there.
 use Rattle.std.proofs.Common.{ℕ, ◌+◌, ◌≡◌, ◌<◌, ◌≤◌, arith, Bool, true, false, if◌then◌else◌, nat_le, ◌==◌, Option, Some, None, refl}
+use Rattle.std.specs.Option.{option_map, IsSome}
 use Rattle.sync_words.specs.declared.access.Applied.{Applied}
 use Rattle.sync_words.specs.declared.access.Applied.TheVariants.{Changed, Same, NotReady}
 use Rattle.sync_words.specs.Access.{applied}
 use Rattle.sync_words.specs.declared.event.Hand.{Hand}
 use Rattle.sync_words.specs.declared.event.Hand.TheVariants.{Nothing, Give, Take}
 use Rattle.sync_words.specs.declared.row.Row.{Row}
-use Rattle.sync_words.specs.declared.row.Row.TheVariants.{AwaitSmi, SwitchOff, ClearSignal, AnnounceBlocked, AnnounceWave, RaiseWave, WatchSource, AwaitServed, RaiseOff}
+use Rattle.sync_words.specs.declared.row.Row.TheVariants.{AwaitSmi, SwitchOff, ClearSignal, Serve, AnnounceBlocked, AnnounceWave, RaiseWave, WatchSource, AwaitServed, RaiseOff}
 use Rattle.rendezvous_core.specs.Platform.{the_platform}
-use Rattle.rendezvous_core.specs.Protocol.{Chair, Seat, row_after, word_of, access_of, hand_of, seat_after}
+use Rattle.rendezvous_core.specs.Protocol.{Chair, Cpu, Seat, row_after, word_of, access_of, hand_of, seat_after, cpu_after, entered_cpu, served_cpu, resumed_cpu}
 use Rattle.rendezvous_core.specs.SeatInside.{IsRow, IsRowOf, IsChipsetRow}
 use Rattle.rendezvous_core.specs.Worlds.{Words, turn, turn_at, moved, read, holding_after}
 
@@ -49,3 +50,36 @@ turn_stays_at v words chair s (Some r) own h = moved_stays v words chair s r (ap
 
 pub turn_stays : (v : Option ℕ) (words : Words) (chair : Option Chair) (s : Seat) → IsChipsetRow s.row → IsChipsetRow ((turn (the_platform v) words chair 1 s).seat.row)
 turn_stays v words chair s h = turn_stays_at v words chair s s.row h h
+
+-- A processor keeps its registers and its image.
+mapped_some : (f : Cpu → Cpu) (o : Option Cpu) → IsSome o → IsSome (option_map f o)
+mapped_some f None h = h
+mapped_some f (Some c) h = refl
+
+some_if : (b : Bool) (f : Cpu → Cpu) (o : Option Cpu) → IsSome o → IsSome (if b then option_map f o else o)
+some_if true f o h = mapped_some f o h
+some_if false f o h = h
+
+cpu_stays : (me : ℕ) (chair : Option Chair) (cpu : Option Cpu) (r : Row) (found : ℕ) → IsSome cpu → IsSome (cpu_after me chair cpu r found)
+cpu_stays me chair cpu AwaitSmi found h = some_if (found == 1) entered_cpu cpu h
+cpu_stays me chair cpu Serve found h = mapped_some (served_cpu me chair) cpu h
+cpu_stays me chair cpu ClearSignal found h = mapped_some resumed_cpu cpu h
+cpu_stays me chair cpu _ found h = h
+
+holding_keeps_cpu : (hand : Hand) (chair : Option Chair) (s : Seat) → IsSome s.cpu → IsSome ((holding_after hand chair s).cpu)
+holding_keeps_cpu Nothing chair s h = h
+holding_keeps_cpu (Take k) chair s h = h
+holding_keeps_cpu (Give k) chair s h = h
+
+moved_keeps_cpu : (v : Option ℕ) (words : Words) (chair : Option Chair) (s : Seat) (r : Row) (a : Applied) → IsSome s.cpu → IsSome ((moved (the_platform v) words chair 0 s r a).seat.cpu)
+moved_keeps_cpu v words chair s r (NotReady found) h = h
+moved_keeps_cpu v words chair s r (Same found) h = cpu_stays 0 s.chair s.cpu r found h
+moved_keeps_cpu v words chair s r (Changed new found) h =
+    holding_keeps_cpu (hand_of (the_platform v) r) chair (seat_after (the_platform v) 0 s r found) (cpu_stays 0 s.chair s.cpu r found h)
+
+turn_keeps_cpu_at : (v : Option ℕ) (words : Words) (chair : Option Chair) (s : Seat) (o : Option Row) → IsSome s.cpu → IsSome ((turn_at (the_platform v) words chair 0 s o).seat.cpu)
+turn_keeps_cpu_at v words chair s None h = h
+turn_keeps_cpu_at v words chair s (Some r) h = moved_keeps_cpu v words chair s r (applied (read words (word_of 0 r)) (access_of (the_platform v) 0 s r)) h
+
+pub turn_keeps_cpu : (v : Option ℕ) (words : Words) (chair : Option Chair) (s : Seat) → IsSome s.cpu → IsSome ((turn (the_platform v) words chair 0 s).seat.cpu)
+turn_keeps_cpu v words chair s h = turn_keeps_cpu_at v words chair s s.row h

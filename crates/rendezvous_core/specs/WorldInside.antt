@@ -1,5 +1,5 @@
 -- What a world of one processor keeps.
-use Rattle.std.specs.Prelude.{ℕ, ◌≡◌, ◌≤◌, List, [], ◌∷◌, Option, Some, None, vec_capacity}
+use Rattle.std.specs.Prelude.{ℕ, ◌≡◌, ◌≤◌, List, [], ◌∷◌, Option, Some, None, vec_capacity, IsSome}
 use Rattle.sync_words.specs.declared.event.Event.{Event}
 use Rattle.rendezvous_core.specs.SeatInside.{IsChipsetRow}
 use Rattle.rendezvous_core.specs.Worlds.{World, Replay}
@@ -9,7 +9,8 @@ abbrev pub replay_of : Inside → Replay
 replay_of w =
     record { value = w.value; world = record { words = w.words; chair = w.lying; seats = w.processor ∷ w.chipset ∷ [] }; events = w.events.items; room = w.room }
 
--- there is memory for the events
+-- there is memory for the events, and the processor has its image
 pub record IsWorld (w : Inside) : Type 0 where
+  pub processor : IsSome w.processor.cpu
   pub chipset : IsChipsetRow w.chipset.row
   pub room : w.room ≤ vec_capacity w.events

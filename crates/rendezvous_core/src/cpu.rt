@@ -1,4 +1,4 @@
-ghost use Rattle.std.specs.Prelude.{◌≡◌};
+ghost use Rattle.std.specs.Prelude.{◌≡◌, take};
 ghost use Rattle.smm_base.specs.declared.kinds.MapKind.TheVariants.{Intel64};
 ghost use Rattle.cpu_regs.specs.Entering.{after};
 ghost use Rattle.rendezvous_core.specs.Platform.{no_cause};
@@ -8,10 +8,11 @@ ghost use Rattle.rendezvous_core.specs.Worlds.{first_cpu};
 
 use crate::serving::Operation;
 use cpu_regs::{Regs, enter, resume, switch_laws};
-use save_state_map::{Field, Image};
+use byteorder::{ByteOrder, LittleEndian};
+use save_state_access::write_register;
+use save_state_map::Image;
 use smm_base::{After, Cause, Status};
 use std::marker::Model;
-use sync_words::Register;
 
 /// What a processor has for itself: its registers, its save-state image, and the image that it last
 /// resumed from.
@@ -78,13 +79,16 @@ impl Cpu {
     pub fn write_status(&self, operation: Operation) -> Status
         ensures { result ≡ write_status self.now.image operation }
     {
-        Status::Unsupported
+        let mut image = self.image;
+        write_operation(&mut image, operation)
     }
 
     /// A write of its image. Where the status isn't `Success`, the image stays.
     pub fn write(&mut self, operation: Operation)
         ensures { self.new ≡ record self.old { image = image_on (write_status self.old.image operation) self.old.image operation } }
-    {}
+    {
+        let _status = write_operation(&mut self.image, operation);
+    }
 
     /// The image that it last resumed from, or its first.
     pub fn last(&self) -> &Image
@@ -92,4 +96,23 @@ impl Cpu {
     {
         &self.last
     }
+}
+
+/// The write of a register by the service, on the image of a processor that is present.
+fn write_operation(image: &mut Image, operation: Operation) -> Status
+    ensures status { result ≡ write_status image.old operation }
+    ensures image { image.new ≡ image_on result image.old operation }
+    ensures kind { image.new.kind ≡ image.old.kind }
+{
+    let mut bytes = [0; 24];
+    LittleEndian::write_u64(&mut bytes, operation.value);
+    write_register(image, true, operation.register.number(), low_bytes(&bytes, operation.width))
+}
+
+/// The first bytes, as many as the width says, or all of them.
+fn low_bytes(bytes: &[u8], width: u32) -> &[u8]
+    ensures { result.now ≡ take width bytes.now }
+{
+    let count = bytes.len().min(width as usize);
+    &bytes[..count]
 }

@@ -1,7 +1,7 @@
-ghost use Rattle.std.specs.Prelude.{◌≡◌, ◌+◌, ◌==◌, ◌<◌, ◌≤◌, ℕ, nat_le, if◌then◌else◌, Option, Some, None};
+ghost use Rattle.std.specs.Prelude.{◌≡◌, ◌+◌, ◌==◌, ◌<◌, ◌≤◌, ℕ, nat_le, if◌then◌else◌, Option, Some, None, IsSome};
 ghost use Rattle.sync_words.specs.Access.{IsWithin};
 ghost use Rattle.rendezvous_core.specs.Platform.{the_platform, signal_at, wave_at};
-ghost use Rattle.rendezvous_core.specs.Worlds.{first_seat};
+ghost use Rattle.rendezvous_core.specs.Worlds.{first_seat, last_of};
 ghost use Rattle.rendezvous_core.specs.Protocol.{word_of, access_of, hand_of, label_of, row_after, seat_after, look_label, look_row, to_await, next_said, serving_row, are_all_there, visits_after, source_after, inside_after, wave_after, blocked_after, chair_after, own_write_status, said_by, step_in, resumes_by, served_cpu, cpu_after, entered_cpu, resumed_cpu};
 ghost use Rattle.std.specs.Option.{option_map};
 ghost use Rattle.rendezvous_core.specs.SeatInside.{IsRow, IsRowOf, IsSeat};
@@ -10,6 +10,7 @@ ghost use Rattle.rendezvous_core.specs.WordMap.{IsWordOf};
 use crate::chair::Chair;
 use crate::cpu::Cpu;
 use crate::serving::{Operation, ServingStep};
+use save_state_map::Image;
 use std::marker::Model;
 use sync_words::{Access, After, Hand, LOCKED, Label, Row, Status, WordId};
 
@@ -247,6 +248,17 @@ impl Seat {
         match self.next_step() {
             Some(step) => self.step_label(me, step),
             None => Label::Silent,
+        }
+    }
+
+    /// The image that the processor last resumed from, or its first.
+    pub fn last(&self) -> &Image
+        requires { IsSome self.now.cpu }
+        ensures { last_of (Some self.now) ≡ Some result.now }
+    {
+        match &self.cpu {
+            Some(cpu) => cpu.last(),
+            None => unreachable!(),
         }
     }
 

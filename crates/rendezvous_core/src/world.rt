@@ -1,7 +1,7 @@
-ghost use Rattle.std.specs.Prelude.{◌≡◌, ◌<◌, ◌≤◌, ◌++◌, [], ◌∷◌, length, IfOk, IsTrue};
+ghost use Rattle.std.specs.Prelude.{◌≡◌, ◌<◌, ◌≤◌, ◌++◌, [], ◌∷◌, length, IfOk, Some};
 ghost use Rattle.smm_base.specs.declared.kinds.MapKind.TheVariants.{Intel64};
 ghost use Rattle.rendezvous_core.specs.Platform.{the_platform};
-ghost use Rattle.rendezvous_core.specs.Worlds.{start, step, with_event, is_complete};
+ghost use Rattle.rendezvous_core.specs.Worlds.{start, step, with_event, is_complete, last_image};
 
 use crate::chair::Chair;
 use crate::cpu::Cpu;
@@ -123,6 +123,14 @@ impl World {
         ensures { result.now.items ≡ self.now.events }
     {
         &self.events
+    }
+
+    /// The image that processor `i` last resumed from, or its first.
+    pub fn after(&self, i: u16) -> &Image
+        requires { i ≡ 0 }
+        ensures { last_image self.now.world i ≡ Some result.now }
+    {
+        self.processor.last()
     }
 
     /// Is every actor off?

@@ -32,4 +32,4 @@ pub invariant_of-self : goal.invariant_of-self
 invariant_of-self c =
     let e = c.take_turn.ensures in
     let stays = turn_stays c.self.inside.value c.self.inside.words c.self.inside.lying c.self.inside.chipset c.self.invariant.chipset in
-    record { chipset = subst (λ (s : Seat). IsChipsetRow s.row) (sym e.seat) stays; room = c.self.invariant.room }
+    record { processor = c.self.invariant.processor; chipset = subst (λ (s : Seat). IsChipsetRow s.row) (sym e.seat) stays; room = c.self.invariant.room }

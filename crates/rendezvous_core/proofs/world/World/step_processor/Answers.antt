@@ -2,10 +2,10 @@
 use Rattle.std.proofs.Common.{◌≡◌, [], ◌∷◌, sym, subst, ap, ◌∙◌}
 use Rattle.rendezvous_core.specs.Platform.{the_platform}
 use Rattle.rendezvous_core.specs.Protocol.{Seat}
-use Rattle.rendezvous_core.specs.SeatInside.{IsChipsetRow}
+use Rattle.std.specs.Option.{IsSome}
 use Rattle.rendezvous_core.specs.Worlds.{Replay, step}
 use Rattle.rendezvous_core.specs.WorldInside.{replay_of}
-use Rattle.rendezvous_core.proofs.SeatLemmas.{turn_stays}
+use Rattle.rendezvous_core.proofs.SeatLemmas.{turn_keeps_cpu}
 use Rattle.rendezvous_core.proofs.world.World.step_processor.Goals as goal
 
 pub returns-clause-stepped : goal.returns-clause-stepped
@@ -27,3 +27,9 @@ returns-clause-world c =
       room = c.self.inside.room;
     } in
     built ∙ ap (λ (r : Replay). record r { world = (step (the_platform r.value) r.world 0).1 }) c.self.view_is
+
+pub invariant_of-self : goal.invariant_of-self
+invariant_of-self c =
+    let e = c.take_turn.ensures in
+    let keeps = turn_keeps_cpu c.self.inside.value c.self.inside.words c.self.inside.lying c.self.inside.processor c.self.invariant.processor in
+    record { processor = subst (λ (s : Seat). IsSome s.cpu) (sym e.seat) keeps; chipset = c.self.invariant.chipset; room = c.self.invariant.room }
