@@ -5,7 +5,7 @@ use Rattle.std.proofs.lemmas.List.{drop-drop}
 use Rattle.sync_words.specs.declared.label.Label.TheVariants as label
 use Rattle.sync_words.specs.declared.row.Row.TheVariants.{LeaveInside, Serve}
 use Rattle.rendezvous_core.specs.declared.serving.ServingStep.{ServingStep}
-use Rattle.rendezvous_core.specs.declared.serving.ServingStep.TheVariants.{Say, Do}
+use Rattle.rendezvous_core.specs.declared.serving.ServingStep.TheVariants.{Say}
 use Rattle.rendezvous_core.specs.Platform.{the_platform}
 use Rattle.rendezvous_core.specs.Protocol.{row_by_rest}
 use Rattle.rendezvous_core.specs.Serving.{serving_steps}

@@ -1,5 +1,5 @@
 -- Each step of the chipset keeps the invariant, and the machine allows its label.
-use Rattle.std.proofs.Common.{ℕ, zero, suc, ◌+◌, ◌-◌, ◌*◌, ◌%◌, ◌/◌, ◌≡◌, ◌≢◌, ◌<◌, ◌≤◌, arith, List, length, slice_index_or, Option, Some, None, refl, sym, ap, subst, ⊎_elim, ◌∙◌}
+use Rattle.std.proofs.Common.{ℕ, ◌+◌, ◌-◌, ◌%◌, ◌≡◌, ◌≢◌, ◌<◌, ◌≤◌, arith, List, length, slice_index_or, Option, Some, None, refl, sym, ap, subst, ⊎_elim}
 use Rattle.std.proofs.lemmas.Bool.{cases_eq, cases_lt, eq-eqb, ne_eqb, le-leb, lt-leb}
 use Rattle.sync_words.specs.declared.row.Row.{Row}
 use Rattle.sync_words.specs.declared.row.Row.TheVariants.{AnnounceBlocked, AnnounceWave, RaiseWave, WatchSource, AwaitServed, RaiseOff}
@@ -7,7 +7,7 @@ use Rattle.rendezvous_core.specs.declared.phase.Arrival.{Arrival}
 use Rattle.rendezvous_core.specs.declared.phase.Arrival.TheVariants.{Prompt, Delayed, Blocked, Absent}
 use Rattle.rendezvous_core.specs.Platform.{Platform, Wave, Handler, with_one, wave_at, blocked_in, status_in, signal_of, signal_at}
 use Rattle.rendezvous_core.specs.Worlds.{step}
-use Rattle.rendezvous_core.proofs.Shape.{Shape, Holds, Kept, world_at, machine_at, SignalFits, is_in, is_gone, inside_of}
+use Rattle.rendezvous_core.proofs.Shape.{Shape, Kept, world_at, machine_at, SignalFits, is_in, is_gone, inside_of}
 use Rattle.rendezvous_core.proofs.Processor.{At, fine}
 
 announce_blocked : (a b v o : ℕ) (ws : List Wave) (hs : List Handler) (r : Option Row) (x : Shape) → At a b v o ws hs 1 r (Some AnnounceBlocked) x

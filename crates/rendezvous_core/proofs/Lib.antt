@@ -8,3 +8,5 @@ pub mod ChairLemmas
 pub mod WordMapLemmas
 pub mod SeatLemmas
 pub mod ServiceLemmas
+pub mod Waiting
+pub mod Example

@@ -1,7 +1,6 @@
 -- Each step of the processor keeps the invariant, and the machine allows its label.
-use Rattle.std.proofs.Common.{ℕ, suc, ◌+◌, ◌-◌, ◌*◌, ◌≡◌, ◌≢◌, ◌<◌, ◌≤◌, arith, true, false, List, [], ◌∷◌, ◌++◌, length, Option, Some, None, refl, sym, ap, subst, ⊎_elim, ◌∙◌, inl, inr, zero, append_assoc, append-nil}
+use Rattle.std.proofs.Common.{ℕ, suc, ◌+◌, ◌-◌, ◌≡◌, ◌≢◌, ◌<◌, ◌≤◌, arith, true, false, List, [], ◌∷◌, ◌++◌, Option, Some, None, refl, sym, ap, subst, ⊎_elim, ◌∙◌, inl, inr, zero, append_assoc, append-nil}
 use Rattle.std.proofs.lemmas.Bool.{cases_eq, cases_lt, eq-eqb, ne_eqb, le-leb, lt-leb, le-ltb}
-use Rattle.smm_base.specs.declared.kinds.After.TheVariants.{Next}
 use Rattle.sync_words.specs.declared.label.Label.{Label}
 use Rattle.sync_words.specs.declared.label.Label.TheVariants as label
 use Rattle.sync_words.specs.declared.row.Row.{Row}
@@ -19,8 +18,8 @@ use Rattle.rendezvous_core.specs.declared.serving.ServingStep.{ServingStep}
 use Rattle.rendezvous_core.specs.declared.serving.ServingStep.TheVariants.{Say, Do}
 use Rattle.rendezvous_core.specs.Serving.{serving_steps}
 use Rattle.rendezvous_core.specs.Worlds.{step, World}
-use Rattle.rendezvous_core.specs.Machine.{Machine, operation}
-use Rattle.rendezvous_core.proofs.Shape.{Shape, Holds, IsFine, Kept, world_at, machine_at, ProcessorFits, ChipsetFits, SignalFits, IsSaying}
+use Rattle.rendezvous_core.specs.Machine.{operation}
+use Rattle.rendezvous_core.proofs.Shape.{Shape, Holds, IsFine, Kept, world_at, machine_at, ChipsetFits, SignalFits, IsSaying}
 use Rattle.rendezvous_core.proofs.Said.{Spoken, spoken_append, said_whole, said_prefix, later_of_walk, first_is_begin, IsWalkStep}
 
 abbrev pub At : ℕ → ℕ → ℕ → ℕ → List Wave → List Handler → ℕ → Option Row → Option Row → Shape → Type 0

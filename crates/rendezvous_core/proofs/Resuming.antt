@@ -1,12 +1,11 @@
 -- The machine's last resumed image is what the labels alone say.
-use Rattle.std.proofs.Common.{ℕ, zero, suc, ◌+◌, ◌≡◌, ◌≢◌, arith, Bool, true, false, List, [], ◌∷◌, Option, refl, sym, ap, subst, ◌∙◌}
+use Rattle.std.proofs.Common.{ℕ, zero, suc, ◌≡◌, ◌≢◌, arith, List, [], ◌∷◌, refl, sym, ap, subst}
 use Rattle.std.proofs.lemmas.Bool.{ne_eqb}
-use Rattle.smm_base.specs.declared.status.Status.{Status}
 use Rattle.save_state_map.specs.Images.{ImageContents}
 use Rattle.cpu_regs.specs.Registers.{loaded}
 use Rattle.sync_words.specs.declared.label.Label.{Label}
 use Rattle.sync_words.specs.declared.label.Label.TheVariants as label
-use Rattle.rendezvous_core.specs.Machine.{Machine, Member, Session, effect, machine_after, member, beginning, Resumed, resumed_by, resumed_after, resumed_image, first_member}
+use Rattle.rendezvous_core.specs.Machine.{Machine, Member, effect, machine_after, member, beginning, Resumed, resumed_by, resumed_after, resumed_image, first_member}
 
 abbrev resumed_of : Member → Resumed
 resumed_of x = record { registers = x.registers; image = x.image; last = x.last }

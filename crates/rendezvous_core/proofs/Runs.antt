@@ -1,5 +1,5 @@
 -- The labels of every schedule on a platform of one processor are a run of the machine.
-use Rattle.std.proofs.Common.{ℕ, zero, suc, ◌+◌, ◌*◌, ◌≡◌, ◌<◌, ◌≤◌, arith, true, false, List, [], ◌∷◌, length, get_or, Option, Some, None, refl, sym, ap, subst, ◌∙◌}
+use Rattle.std.proofs.Common.{ℕ, zero, suc, ◌≡◌, ◌<◌, arith, false, List, [], ◌∷◌, length, Option, Some, refl, sym, subst}
 use Rattle.save_state_map.specs.Images.{ImageContents}
 use Rattle.cpu_regs.specs.Registers.{loaded}
 use Rattle.sync_words.specs.declared.event.Event.{Event}

@@ -1,5 +1,5 @@
 -- The rows of the chipset lead to rows of the chipset, and each row names a word that is there.
-use Rattle.std.proofs.Common.{ℕ, ◌+◌, ◌≡◌, ◌<◌, ◌≤◌, arith, Bool, true, false, if◌then◌else◌, nat_le, ◌==◌, Option, Some, None, refl}
+use Rattle.std.proofs.Common.{ℕ, ◌+◌, ◌≡◌, ◌≤◌, arith, Bool, true, false, if◌then◌else◌, nat_le, ◌==◌, Option, Some, None, refl}
 use Rattle.std.specs.Option.{option_map, IsSome}
 use Rattle.sync_words.specs.declared.access.Applied.{Applied}
 use Rattle.sync_words.specs.declared.access.Applied.TheVariants.{Changed, Same, NotReady}

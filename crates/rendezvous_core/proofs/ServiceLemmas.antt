@@ -42,16 +42,16 @@ answer_kind m o =
     let new : List ℕ = operation_bytes o in
     let stays : Status → WriteAnswer = λ status. record { status = status; image = m } in
     case_kind m.kind (
-      (length new == 0, stays InvalidParameter)
-      ∷ (number == register_number registers.ProcessorId, stays Success)
-      ∷ (not true, stays InvalidParameter)
-      ∷ (number == register_number registers.Lma, stays Success)
-      ∷ (number == register_number registers.Io, stays NotFound)
-      ∷ (is_none (register_at m number), stays NotFound)
-      ∷ (not (is_written (parts_numbered number)), stays Unsupported)
-      ∷ (nat_lt (width_at m number) (length new), stays InvalidParameter)
-      ∷ (number == register_number registers.AutoHalt && starts_halt m new, stays Unsupported)
-      ∷ []
+    (length new == 0, stays InvalidParameter)
+    ∷ (number == register_number registers.ProcessorId, stays Success)
+    ∷ (not true, stays InvalidParameter)
+    ∷ (number == register_number registers.Lma, stays Success)
+    ∷ (number == register_number registers.Io, stays NotFound)
+    ∷ (is_none (register_at m number), stays NotFound)
+    ∷ (not (is_written (parts_numbered number)), stays Unsupported)
+    ∷ (nat_lt (width_at m number) (length new), stays InvalidParameter)
+    ∷ (number == register_number registers.AutoHalt && starts_halt m new, stays Unsupported)
+    ∷ []
     ) (record { status = Success; image = with_low_bytes m (parts_numbered number) new })
     (refl, (refl, (refl, (refl, (refl, (refl, (refl, (refl, (refl, tt)))))))))
     (low_kind m (parts_numbered number) new)

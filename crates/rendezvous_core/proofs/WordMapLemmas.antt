@@ -1,5 +1,5 @@
 -- A write into the map of the words.
-use Rattle.std.proofs.Common.{ℕ, zero, ◌≡◌, ◌<◌, ◌≤◌, arith, List, [], ◌∷◌, Option, Some, None, refl, sym, ap, subst}
+use Rattle.std.proofs.Common.{ℕ, ◌≡◌, ◌≤◌, arith, List, [], ◌∷◌, None, refl, sym, ap, subst}
 use Rattle.std.specs.BTreeMap.{insert_entry, is_at}
 use Rattle.std.specs.Map.{lookup}
 use Rattle.std.specs.Prelude.{Result, Ok, Err, OnOk, OnErr}
@@ -7,7 +7,7 @@ use Rattle.sync_words.specs.declared.word.WordId.{WordId}
 use Rattle.sync_words.specs.declared.word.WordId.TheVariants as word
 use Rattle.sync_words.specs.declared.access.TheConstants.{LOCKED}
 use Rattle.sync_words.specs.contracts.word.WordIdOrd.TheImpl.{cmp-value}
-use Rattle.rendezvous_core.specs.Worlds.{Words, write, read}
+use Rattle.rendezvous_core.specs.Worlds.{Words, write}
 use Rattle.rendezvous_core.specs.WordMap.{words_of, entries_of, AllFit, AreWords, IsWordOf}
 
 -- a write of a word that is there

@@ -7,7 +7,7 @@ use Rattle.std.specs.List.{count_by}
 use Rattle.smm_base.specs.declared.kinds.MapKind.TheVariants.{Intel64}
 use Rattle.smm_base.specs.declared.registers.Register.{Register}
 use Rattle.smm_base.specs.declared.status.Status.{Status}
-use Rattle.smm_base.specs.declared.status.Status.TheVariants.{Success, InvalidParameter}
+use Rattle.smm_base.specs.declared.status.Status.TheVariants.{InvalidParameter}
 use Rattle.save_state_map.specs.Images.{ImageContents}
 use Rattle.cpu_regs.specs.Registers.{Registers, loaded}
 use Rattle.cpu_regs.specs.Entering.{saved, after}

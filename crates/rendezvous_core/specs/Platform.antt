@@ -1,5 +1,5 @@
 -- The platform: how many processors there are, what comes, and how long each part may take.
-use Rattle.std.specs.Prelude.{ℕ, zero, suc, ◌-◌, Bool, true, false, List, [], ◌∷◌, length, Option, Some, None, slice_get, slice_index_or}
+use Rattle.std.specs.Prelude.{ℕ, zero, suc, Bool, true, false, List, [], ◌∷◌, Option, Some, None, slice_get, slice_index_or}
 use Rattle.std.specs.List.{count_by}
 use Rattle.smm_base.specs.declared.kinds.Cause.{Cause}
 use Rattle.smm_base.specs.declared.kinds.HandlerType.{HandlerType}

@@ -1,11 +1,10 @@
 -- The protocol as a table: for each row the word that is wanted, the access, the hand, and by the number found the
 -- label, the next row and what the actor keeps. The rows are those that one processor and the chipset meet. On such
 -- a platform each loop over other processors is empty, and so its rows are passed over.
-use Rattle.std.specs.Prelude.{ℕ, zero, suc, ◌+◌, ◌==◌, nat_le, nat_lt, nat_eq, Bool, true, false, ◌&&◌, if◌then◌else◌, List, [], ◌∷◌, length, Option, Some, None, drop, slice_get}
+use Rattle.std.specs.Prelude.{ℕ, ◌+◌, ◌==◌, nat_le, nat_lt, Bool, true, false, ◌&&◌, if◌then◌else◌, List, [], ◌∷◌, length, Option, Some, None, drop, slice_get}
 use Rattle.std.specs.Option.{option_map}
 use Rattle.smm_base.specs.declared.kinds.After.{After}
 use Rattle.smm_base.specs.declared.kinds.After.TheVariants.{Next}
-use Rattle.smm_base.specs.declared.kinds.Cause.{Cause}
 use Rattle.smm_base.specs.declared.status.Status.{Status}
 use Rattle.smm_base.specs.declared.status.Status.TheVariants.{InvalidParameter}
 use Rattle.save_state_map.specs.Images.{ImageContents}

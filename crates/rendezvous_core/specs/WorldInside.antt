@@ -1,8 +1,7 @@
 -- What a world of one processor keeps.
-use Rattle.std.specs.Prelude.{ℕ, ◌≡◌, ◌≤◌, List, [], ◌∷◌, Option, Some, None, vec_capacity, IsSome}
-use Rattle.sync_words.specs.declared.event.Event.{Event}
+use Rattle.std.specs.Prelude.{◌≤◌, [], ◌∷◌, vec_capacity, IsSome}
 use Rattle.rendezvous_core.specs.SeatInside.{IsChipsetRow}
-use Rattle.rendezvous_core.specs.Worlds.{World, Replay}
+use Rattle.rendezvous_core.specs.Worlds.{Replay}
 use Rattle.rendezvous_core.specs.declared.world.World.TheInside.{Inside}
 
 abbrev pub replay_of : Inside → Replay

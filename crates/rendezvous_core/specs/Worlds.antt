@@ -1,5 +1,5 @@
 -- The world, one step of an actor in it, and the replay of a schedule.
-use Rattle.std.specs.Prelude.{ℕ, ◌+◌, ◌≡◌, Bool, true, false, List, [], ◌∷◌, ◌++◌, slice_index_or, slice_get, slice_set, replicate, map, Option, Some, None, is_none}
+use Rattle.std.specs.Prelude.{ℕ, Bool, List, [], ◌∷◌, ◌++◌, slice_index_or, slice_get, slice_set, replicate, map, Option, Some, None, is_none}
 use Rattle.std.specs.Option.{option_map}
 use Rattle.save_state_map.specs.Images.{ImageContents}
 use Rattle.cpu_regs.specs.Registers.{loaded}
@@ -136,6 +136,12 @@ step_of p w me (Some s) = ((turn p w.words w.chair me s).stepped, turned w me (t
 
 abbrev pub step : Platform → World → ℕ → Stepped × World
 step p w me = step_of p w me (slice_get w.seats me)
+
+-- the actor had to wait, or was off
+abbrev pub MakesNoEvent : Stepped → Type 0
+MakesNoEvent (stepped.Event e) = ⊥
+MakesNoEvent (stepped.Waiting found) = Unit {0}
+MakesNoEvent stepped.Off = Unit {0}
 
 -- the events of a schedule, from a world on: an actor that waits or is off adds nothing
 abbrev pub with_event : Stepped → List Event → List Event

@@ -7,8 +7,8 @@ ghost use Rattle.rendezvous_core.specs.Service.{write_status, image_on};
 ghost use Rattle.rendezvous_core.specs.Worlds.{first_cpu};
 
 use crate::serving::Operation;
-use cpu_regs::{Regs, enter, resume, switch_laws};
 use byteorder::{ByteOrder, LittleEndian};
+use cpu_regs::{Regs, enter, resume, switch_laws};
 use save_state_access::write_register;
 use save_state_map::Image;
 use smm_base::{After, Cause, Status};
@@ -106,7 +106,12 @@ fn write_operation(image: &mut Image, operation: Operation) -> Status
 {
     let mut bytes = [0; 24];
     LittleEndian::write_u64(&mut bytes, operation.value);
-    write_register(image, true, operation.register.number(), low_bytes(&bytes, operation.width))
+    write_register(
+        image,
+        true,
+        operation.register.number(),
+        low_bytes(&bytes, operation.width),
+    )
 }
 
 /// The first bytes, as many as the width says, or all of them.

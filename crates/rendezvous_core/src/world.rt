@@ -1,7 +1,7 @@
 ghost use Rattle.std.specs.Prelude.{◌≡◌, ◌<◌, ◌≤◌, ◌++◌, [], ◌∷◌, length, IfOk, Some};
 ghost use Rattle.smm_base.specs.declared.kinds.MapKind.TheVariants.{Intel64};
 ghost use Rattle.rendezvous_core.specs.Platform.{the_platform};
-ghost use Rattle.rendezvous_core.specs.Worlds.{start, step, with_event, is_complete, last_image};
+ghost use Rattle.rendezvous_core.specs.Worlds.{start, step, with_event, is_complete, last_image, MakesNoEvent};
 
 use crate::chair::Chair;
 use crate::cpu::Cpu;
@@ -66,6 +66,7 @@ impl World {
     fn step_processor(&mut self) -> Stepped
         ensures stepped { result ≡ (step (the_platform self.old.value) self.old.world 0).0 }
         ensures world { self.new ≡ record self.old { world = (step (the_platform self.old.value) self.old.world 0).1 } }
+        ensures stays { MakesNoEvent result → self.new ≡ self.old }
     {
         take_turn(
             self.value,
@@ -79,6 +80,7 @@ impl World {
     fn step_chipset(&mut self) -> Stepped
         ensures stepped { result ≡ (step (the_platform self.old.value) self.old.world 1).0 }
         ensures world { self.new ≡ record self.old { world = (step (the_platform self.old.value) self.old.world 1).1 } }
+        ensures stays { MakesNoEvent result → self.new ≡ self.old }
     {
         take_turn(
             self.value,
@@ -92,7 +94,8 @@ impl World {
     /// Keeps the event of a step.
     fn keep(&mut self, stepped: Stepped)
         requires { length self.old.events < self.old.room }
-        ensures { self.new ≡ record self.old { events = self.old.events ++ with_event stepped [] } }
+        ensures events { self.new ≡ record self.old { events = self.old.events ++ with_event stepped [] } }
+        ensures stays { MakesNoEvent stepped → self.new ≡ self.old }
     {
         if let Stepped::Event(event) = stepped {
             self.events.push_reserved(event);
@@ -108,6 +111,8 @@ impl World {
         ensures events { self.new.events ≡ self.old.events ++ with_event result [] }
         ensures room { self.new.room ≡ self.old.room }
         ensures value { self.new.value ≡ self.old.value }
+        // Where the actor waits or is off, nothing changes.
+        ensures stays { MakesNoEvent result → self.new ≡ self.old }
     {
         let stepped = if actor == PROCESSORS {
             self.step_chipset()

@@ -1,9 +1,8 @@
 -- What the service answers, and that a refusal changes nothing.
-use Rattle.std.proofs.Common.{ℕ, ◌≡◌, List, true, take, ◌∙◌, ap}
+use Rattle.std.proofs.Common.{ℕ, List, true, take, ◌∙◌, ap}
 use Rattle.smm_base.specs.Register.{register_number}
 use Rattle.save_state_map.specs.Images.{ImageContents}
 use Rattle.save_state_access.specs.Writing.{write_answer}
-use Rattle.rendezvous_core.specs.Service.{image_on}
 use Rattle.rendezvous_core.proofs.ServiceLemmas.{image_by, image_kind}
 use Rattle.rendezvous_core.proofs.cpu.write_operation.Goals as goal
 

@@ -1,5 +1,5 @@
 -- One step less; where none is left, none stays.
-use Rattle.std.proofs.Common.{ℕ, ◌+◌, ◌≡◌, ◌≤◌, arith, List, Option, drop, sym, ap, ◌∙◌}
+use Rattle.std.proofs.Common.{ℕ, ◌+◌, ◌≡◌, arith, List, Option, sym, ap, ◌∙◌}
 use Rattle.rendezvous_core.specs.declared.serving.ServingStep.{ServingStep}
 use Rattle.rendezvous_core.specs.ChairInside.{chair_of}
 use Rattle.rendezvous_core.specs.Protocol.{Chair, one_taken}

@@ -1,5 +1,5 @@
 -- Behind its last step, and of a wave that the platform hasn't, there is nothing more to say.
-use Rattle.std.proofs.Common.{ℕ, ◌≡◌, ◌≤◌, ◌<◌, arith, ap, ◌∙◌, sym, subst}
+use Rattle.std.proofs.Common.{ap, ◌∙◌}
 use Rattle.rendezvous_core.specs.Protocol.{Chair, row_by_rest}
 use Rattle.rendezvous_core.proofs.ChairLemmas.{last_of_first, last_of_other, more_of_first}
 use Rattle.rendezvous_core.proofs.chair.Chair.row.Goals as goal

@@ -1,8 +1,7 @@
 -- The parts of the seat, one after the other, are those of the table.
-use Rattle.std.proofs.Common.{◌≡◌, ℕ, Option, ap, ◌∙◌}
+use Rattle.std.proofs.Common.{ℕ, Option, ap, ◌∙◌}
 use Rattle.rendezvous_core.specs.Platform.{the_platform}
-use Rattle.rendezvous_core.specs.Protocol.{Chair, Cpu, Seat, seat_after, source_after, inside_after, blocked_after, chair_after}
-use Rattle.rendezvous_core.specs.SeatInside.{seat_of}
+use Rattle.rendezvous_core.specs.Protocol.{Chair, Seat, source_after, inside_after, blocked_after, chair_after}
 use Rattle.rendezvous_core.proofs.seat.Seat.advance.Goals as goal
 
 pub returns : goal.returns

@@ -1,8 +1,5 @@
 -- The word is one of the ten, so the map takes the new number in the place of the old.
-use Rattle.std.proofs.Common.{◌≡◌, ℕ, List, sym, subst, ap, ◌∙◌}
-use Rattle.std.specs.BTreeMap.{insert_entry}
-use Rattle.sync_words.specs.declared.word.WordId.{WordId}
-use Rattle.sync_words.specs.contracts.word.WordIdOrd.TheImpl.{cmp-value}
+use Rattle.std.proofs.Common.{sym, subst, ap, ◌∙◌}
 use Rattle.rendezvous_core.specs.Worlds.{write}
 use Rattle.rendezvous_core.specs.WordMap.{words_of, AreWords}
 use Rattle.rendezvous_core.proofs.WordMapLemmas.{puts, entries_after}

@@ -3,7 +3,8 @@ use Rattle.std.proofs.Common.{◌≡◌, [], ◌∷◌, sym, subst, ap, ◌∙�
 use Rattle.rendezvous_core.specs.Platform.{the_platform}
 use Rattle.rendezvous_core.specs.Protocol.{Seat}
 use Rattle.rendezvous_core.specs.SeatInside.{IsChipsetRow}
-use Rattle.rendezvous_core.specs.Worlds.{Replay, step}
+use Rattle.rendezvous_core.specs.Worlds.{Replay, World, step, MakesNoEvent}
+use Rattle.rendezvous_core.proofs.Waiting.{waiting_stays}
 use Rattle.rendezvous_core.specs.WorldInside.{replay_of}
 use Rattle.rendezvous_core.proofs.SeatLemmas.{turn_stays}
 use Rattle.rendezvous_core.proofs.world.World.step_chipset.Goals as goal
@@ -33,3 +34,11 @@ invariant_of-self c =
     let e = c.take_turn.ensures in
     let stays = turn_stays c.self.inside.value c.self.inside.words c.self.inside.lying c.self.inside.chipset c.self.invariant.chipset in
     record { processor = c.self.invariant.processor; chipset = subst (λ (s : Seat). IsChipsetRow s.row) (sym e.seat) stays; room = c.self.invariant.room }
+
+pub returns-clause-stays : goal.returns-clause-stays
+returns-clause-stays c =
+    λ h.
+    let before = c.args.self.now in
+    let p = the_platform before.value in
+    let stepped = c.take_turn.ensures.stepped ∙ ap (λ (r : Replay). (step (the_platform r.value) r.world 1).0) c.self.view_is in
+    returns-clause-world c ∙ ap (λ (w : World). record before { world = w }) (waiting_stays p before.world 1 (subst MakesNoEvent stepped h))
