@@ -1,20 +1,18 @@
 -- The registers that an image holds.
-use Rattle.std.proofs.Common.{◌≡◌, ℕ, zero, suc, ◌+◌, ◌^◌, ◌<◌, ◌≤◌, ◌⊎◌, inl, inr, Bool, true, false, cond, List, [], ◌∷◌, length, get_or, set, map, Option, Some, None, refl, sym, ap, subst, ◌∙◌, arith}
+use Rattle.std.proofs.Common.{◌≡◌, ℕ, zero, suc, ◌+◌, ◌^◌, ◌<◌, ◌≤◌, inl, inr, Bool, true, false, cond, List, [], ◌∷◌, length, get_or, set, map, Option, Some, refl, sym, ap, subst, ◌∙◌, arith}
 use Rattle.std.specs.Prelude.{unwrap_or, option_map, IsSomeAnd}
 use Rattle.std.specs.List.{slice_get}
-use Rattle.std.proofs.lemmas.List.{ext_get_or, length-map, length-set, get_or-set_same, get_or-set_other, get_or-map}
+use Rattle.std.proofs.lemmas.List.{ext_get_or, length-map, get_or-set_same, get_or-set_other}
 use Rattle.std.proofs.lemmas.Bool.{cases_eq}
 use Rattle.std.proofs.Math.Nat.{one-le-pow}
-use Rattle.smm_base.specs.declared.kinds.MapKind.{MapKind}
 use Rattle.save_state_map.specs.declared.field.Place.{Place}
 use Rattle.save_state_map.specs.declared.field.Field.{Field}
-use Rattle.save_state_map.specs.declared.field.Field.TheVariants.{Cr0}
 use Rattle.save_state_map.specs.declared.field.TheConstants.{FIELDS}
 use Rattle.save_state_map.specs.Fields.{field_place, field_index}
 use Rattle.save_state_map.specs.Images.{ImageContents, IsImage, field_of, number_at}
 use Rattle.save_state_map.proofs.Places.{takes_own}
 use Rattle.save_state_map.proofs.Apart.{listed}
-use Rattle.cpu_regs.specs.Registers.{Registers, IsRegisters, is_kept, number_of, kept_number, loaded}
+use Rattle.cpu_regs.specs.Registers.{IsRegisters, is_kept, kept_number, loaded}
 
 -- a list made of another is read where the other is
 map_at : {X : Type 0} (f : X → ℕ) (xs : List X) (i : ℕ) (x : X) → slice_get xs i ≡ Some x → get_or (map f xs) i 0 ≡ f x

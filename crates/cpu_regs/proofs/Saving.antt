@@ -1,10 +1,9 @@
 -- What entering leaves in an image, and that resuming from it gives the registers back.
-use Rattle.std.proofs.Common.{◌≡◌, ◌≢◌, ◌↔◌, ℕ, zero, suc, ◌+◌, ◌^◌, ◌<◌, ◌≤◌, ◌⊎◌, inl, inr, Bool, true, false, ◌&&◌, not, cond, eqb, List, [], ◌∷◌, length, get_or, drop, map, Option, Some, None, is_some, refl, sym, ap, subst, ◌∙◌, zero-add, arith}
-use Rattle.std.specs.Prelude.{unwrap_or, option_map, IsSomeAnd, IsTrue, IfSome}
+use Rattle.std.proofs.Common.{◌≡◌, ◌≢◌, ◌↔◌, ℕ, zero, suc, ◌+◌, ◌^◌, ◌<◌, ◌≤◌, ◌⊎◌, inl, inr, Bool, true, false, ◌&&◌, not, cond, List, [], ◌∷◌, length, get_or, drop, map, Option, Some, None, is_some, refl, sym, ap, subst, ◌∙◌, zero-add, arith}
+use Rattle.std.specs.Prelude.{unwrap_or, option_map, IsTrue, IfSome}
 use Rattle.std.specs.Bool.{OnTrue, OnFalse}
 use Rattle.std.specs.List.{slice_get, range_with_len}
 use Rattle.std.proofs.lemmas.List.{drop_more, drop_all, ext_get_or, length-map, get_or-map}
-use Rattle.std.proofs.lemmas.Bool.{eqb-true}
 use Rattle.std.proofs.lemmas.Bool.Decides.{eqb_tells, nat_tests}
 use Rattle.std.proofs.lemmas.List.FromFn.{get_or-range_with_len}
 use Rattle.smm_base.specs.declared.kinds.MapKind.{MapKind}
@@ -17,7 +16,7 @@ use Rattle.save_state_map.specs.declared.field.Field.{Field}
 use Rattle.save_state_map.specs.declared.field.Field.TheVariants.{Cr0, AutoHalt, IoState, IoRestart, IoMemoryAddress}
 use Rattle.save_state_map.specs.declared.field.TheConstants.{FIELDS}
 use Rattle.save_state_map.specs.Fields.{field_place, field_index}
-use Rattle.save_state_map.specs.Images.{ImageContents, IsImage, IsOutside, Accepts, field_of, with_field, with_number}
+use Rattle.save_state_map.specs.Images.{ImageContents, IsImage, Accepts, field_of, with_field, with_number}
 use Rattle.save_state_map.proofs.Places.{accepted_at, field_reads_back, other_field_stays, other_byte_stays, stays_image}
 use Rattle.save_state_map.proofs.Apart.{listed, same_index}
 use Rattle.cpu_regs.specs.Registers.{Registers, IsRegisters, is_event_field, is_kept, number_of, kept_number, loaded}

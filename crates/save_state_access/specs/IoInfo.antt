@@ -1,5 +1,5 @@
 -- What the I/O state of an image says of the instruction that the interrupt came at.
-use Rattle.std.specs.Prelude.{ℕ, ◌+◌, ◌*◌, ◌/◌, ◌%◌, ◌^◌, Bool, ◌&&◌, ◌||◌, ◌==◌, nat_le, if◌then◌else◌, List, [], ◌∷◌, ◌++◌, Option, Some, None, unwrap_or}
+use Rattle.std.specs.Prelude.{ℕ, ◌/◌, ◌%◌, ◌^◌, Bool, ◌&&◌, ◌||◌, ◌==◌, nat_le, if◌then◌else◌, List, [], ◌∷◌, ◌++◌, Option, Some, None, unwrap_or}
 use Rattle.smm_base.specs.Kinds.{is_io_length}
 use Rattle.byteorder.specs.Endian.{little_bytes}
 use Rattle.save_state_map.specs.declared.field.Field.{Field}

@@ -1,4 +1,5 @@
 pub mod Table
+pub mod Width
 pub mod IoInfo
 pub mod Reading
 pub mod Writing

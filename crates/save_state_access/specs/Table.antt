@@ -3,7 +3,6 @@ use Rattle.std.specs.Prelude.{ℕ, ◌==◌, Option, Some, None, find}
 use Rattle.smm_base.specs.declared.registers.Register.{Register}
 use Rattle.smm_base.specs.declared.registers.Register.TheVariants as registers
 use Rattle.smm_base.specs.Register.{register_number}
-use Rattle.save_state_map.specs.declared.field.Field.{Field}
 use Rattle.save_state_map.specs.declared.field.Field.TheVariants as fields
 use Rattle.save_state_access.specs.declared.table.Parts.{Parts}
 use Rattle.save_state_access.specs.declared.table.Parts.TheVariants.{Missing, One, Pair}

@@ -5,7 +5,6 @@ use Rattle.smm_base.specs.declared.status.Status.TheVariants.{Success, InvalidPa
 use Rattle.smm_base.specs.declared.registers.Register.TheVariants as registers
 use Rattle.smm_base.specs.Register.{register_number}
 use Rattle.save_state_map.specs.declared.field.Place.{Place}
-use Rattle.save_state_map.specs.declared.field.Field.{Field}
 use Rattle.save_state_map.specs.declared.field.Field.TheVariants.{AutoHalt}
 use Rattle.save_state_map.specs.Fields.{field_place, is_writable}
 use Rattle.save_state_map.specs.Images.{ImageContents}

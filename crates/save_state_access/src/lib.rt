@@ -7,9 +7,9 @@ mod service;
 mod table;
 
 pub use io::{IoInfo, io_info};
-pub use laws::number_laws;
+pub use laws::register_laws;
 pub use service::{read_register, write_register};
-pub use table::{Parts, REGISTERS, parts_of, register_numbered};
+pub use table::{Parts, REGISTERS, own_width, parts_of, register_numbered};
 
 #[cfg(test)]
 mod tests;

@@ -1,8 +1,9 @@
-ghost use Rattle.std.specs.Prelude.{◌≡◌, ◌≢◌, ◌≤◌, length, IfSome};
-ghost use Rattle.smm_base.specs.declared.status.Status.TheVariants.{Success};
+ghost use Rattle.std.specs.Prelude.{◌≡◌, ◌≢◌, ◌≤◌, if◌then◌else◌, length, IfSome, is_none, option_map, unwrap_or};
+ghost use Rattle.smm_base.specs.declared.status.Status.TheVariants.{Success, NotFound};
 ghost use Rattle.save_state_map.specs.Fields.{field_place};
 ghost use Rattle.save_state_access.specs.declared.table.Parts.TheVariants.{One};
 ghost use Rattle.save_state_access.specs.Writing.{is_written, starts_halt, with_low_bytes, write_answer};
+ghost use Rattle.save_state_access.specs.IoInfo.{io_told, io_bytes};
 ghost use Rattle.save_state_access.specs.Reading.{field_bytes, register_bytes, register_at, lma_byte, read_answer};
 
 use crate::io::{bytes_of, io_info, number};
@@ -11,9 +12,21 @@ use byteorder::{ByteOrder, LittleEndian};
 use save_state_map::{Field, Image};
 use smm_base::{Register, Status};
 
-/// Reads a register by its number into `out`, whose length is the width. The processor has the id
-/// `id`, and `present` says whether its image may be looked at. Where the status isn't
-/// `Success`, `out` stays.
+/// Reads a register by its number into `out`, whose length is the width. `id` is the processor's id, and
+/// `present` says whether its image may be looked at. The first of these cases answers:
+///
+/// - a width of 0: `InvalidParameter`;
+/// - PROCESSOR_ID: `NotFound` where the processor isn't present, `InvalidParameter` at a width other than 8, else the id;
+/// - a processor that isn't present: `InvalidParameter`;
+/// - LMA: `InvalidParameter` at a width other than 1, else 64 where bit 10 of IA32_EFER is 1, and 32;
+/// - IO: `InvalidParameter` at a width other than 24, `NotFound` where [`io_info`] tells nothing, else 24 bytes: the value in 8, the
+///   port in 2, two zeros, the width in 4, the kind in 4, four zeros;
+/// - a register that the map hasn't: `NotFound`;
+/// - a width above the register's: `InvalidParameter`;
+/// - else `Success`, and the low bytes of the register.
+///
+/// Where the status isn't `Success`, `out` stays. The numbers are those of UEFI PI Volume 4; the order of the cases is
+/// this project's own.
 pub fn read_register(image: &Image, present: bool, id: u64, reg: u32, out: &mut [u8]) -> Status
     ensures status { result ≡ (read_answer image.now present id reg out.old).status }
     ensures out { out.new ≡ (read_answer image.now present id reg out.old).out }
@@ -47,11 +60,7 @@ pub fn read_register(image: &Image, present: bool, id: u64, reg: u32, out: &mut 
         if width != 24 {
             return Status::InvalidParameter;
         }
-        let Some(io) = io_info(image) else {
-            return Status::NotFound;
-        };
-        out.copy_from_slice(&bytes_of(&io));
-        return Status::Success;
+        return give_io(image, out);
     }
     let Some(register) = register_of(image, reg) else {
         return Status::NotFound;
@@ -64,9 +73,20 @@ pub fn read_register(image: &Image, present: bool, id: u64, reg: u32, out: &mut 
     Status::Success
 }
 
-/// Writes the low bytes of a register by its number, as many as `bytes` has. `present` says whether the
-/// processor's image may be written. Where the status isn't `Success`, the image stays; where it is, only those
-/// bytes change. PROCESSOR_ID and LMA are written without any change.
+/// Writes the low bytes of a register by its number, as many as `bytes` has. `present` says whether the processor's
+/// image may be written. The first of these cases answers:
+///
+/// - no bytes: `InvalidParameter`;
+/// - PROCESSOR_ID: `Success`, without a change;
+/// - a processor that isn't present: `InvalidParameter`;
+/// - LMA: `Success`, without a change;
+/// - IO, or a register that the map hasn't: `NotFound`;
+/// - a register that no handler may write: `Unsupported`;
+/// - more bytes than the register has: `InvalidParameter`;
+/// - AUTO_HALT, where bit 0 would turn from 0 to 1: `Unsupported`;
+/// - else `Success`, and only those bytes change.
+///
+/// Where the status isn't `Success`, the image stays. The order of the cases is this project's own.
 pub fn write_register(image: &mut Image, present: bool, reg: u32, bytes: &[u8]) -> Status
     ensures status { result ≡ (write_answer image.old present reg bytes.now).status }
     ensures image { image.new ≡ (write_answer image.old present reg bytes.now).image }
@@ -102,6 +122,19 @@ pub fn write_register(image: &mut Image, present: bool, reg: u32, bytes: &[u8]) 
         return Status::Unsupported;
     }
     put_low_bytes(image, parts, bytes);
+    Status::Success
+}
+
+// Gives the answer of IO, if the image tells of an I/O instruction.
+fn give_io(image: &Image, out: &mut [u8]) -> Status
+    requires { length out.old ≡ 24 }
+    ensures status { result ≡ (if is_none (io_told image.now) then NotFound else Success) }
+    ensures out { out.new ≡ unwrap_or (option_map io_bytes (io_told image.now)) out.old }
+{
+    let Some(io) = io_info(image) else {
+        return Status::NotFound;
+    };
+    out.copy_from_slice(&bytes_of(&io));
     Status::Success
 }
 

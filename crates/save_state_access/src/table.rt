@@ -1,8 +1,9 @@
-ghost use Rattle.std.specs.Prelude.{◌≡◌};
+ghost use Rattle.std.specs.Prelude.{◌≡◌, ◌≤◌, IfSome};
 ghost use Rattle.save_state_access.specs.Table.{register_numbered, parts_of, parts_numbered};
+ghost use Rattle.save_state_access.specs.Width.{parts_width, own_width};
 
 use save_state_map::Field;
-use smm_base::Register;
+use smm_base::{MapKind, Register};
 
 /// The fields of an image that a register is made of.
 #[derive(Clone, Copy, Debug, PartialEq, Eq)]
@@ -130,5 +131,43 @@ pub(crate) fn parts_numbered(number: u32) -> Parts
     match register_numbered(number) {
         Some(register) => parts_of(register),
         None => Parts::Missing,
+    }
+}
+
+/// A register's own width in bytes: 24 for IO, 1 for LMA, 8 for PROCESSOR_ID, else the width that the
+/// map gives it, and 8 where the map hasn't it.
+pub fn own_width(kind: MapKind, reg: u32) -> usize
+    ensures width { result ≡ own_width kind reg }
+    ensures some { 1 ≤ result }
+    ensures most { result ≤ 24 }
+{
+    if reg == Register::Io.number() {
+        return 24;
+    }
+    if reg == Register::Lma.number() {
+        return 1;
+    }
+    if reg == Register::ProcessorId.number() {
+        return 8;
+    }
+    width_of(kind, parts_numbered(reg)).unwrap_or(8)
+}
+
+// The width of the fields that a register is made of.
+fn width_of(kind: MapKind, parts: Parts) -> Option<usize>
+    ensures width { result ≡ parts_width kind parts }
+    ensures some { IfSome result (λ width. 1 ≤ width) }
+    ensures most { IfSome result (λ width. width ≤ 8) }
+{
+    match parts {
+        Parts::Missing => None,
+        Parts::One(field) => Some(field.place(kind)?.width),
+        Parts::Pair(low, high) => {
+            if low.place(kind).is_some() && high.place(kind).is_some() {
+                Some(8)
+            } else {
+                None
+            }
+        }
     }
 }

@@ -16,206 +16,70 @@ fn answers(image: Image, present: bool, reg: u32, width: usize, more: bool) -> (
     (read, write)
 }
 
+// The statuses of a read and a write of zeros, at a register's width and at one byte more.
+#[derive(Clone, Copy)]
+struct Expected {
+    own: (Status, Status),
+    more: (Status, Status),
+}
+
+const ABSENT: Expected = Expected {
+    own: (NotFound, NotFound),
+    more: (NotFound, NotFound),
+};
+
+const READ_ONLY: Expected = Expected {
+    own: (Success, Unsupported),
+    more: (InvalidParameter, Unsupported),
+};
+
+const WRITABLE: Expected = Expected {
+    own: (Success, Success),
+    more: (InvalidParameter, InvalidParameter),
+};
+
+const IO: Expected = Expected {
+    own: (NotFound, NotFound),
+    more: (InvalidParameter, NotFound),
+};
+
+const IGNORED: Expected = Expected {
+    own: (Success, Success),
+    more: (InvalidParameter, Success),
+};
+
 #[test]
 fn every_register_at_its_widths(rt: HostRuntime) -> Result<(), Fail> {
-    // The map, the numbers, the register's width, what it answers at that width, and at one more.
-    for (kind, numbers, width, own, more) in [
-        (
-            MapKind::Intel64,
-            0..4,
-            4,
-            (NotFound, NotFound),
-            (NotFound, NotFound),
-        ),
-        (
-            MapKind::Intel64,
-            4..7,
-            8,
-            (Success, Unsupported),
-            (InvalidParameter, Unsupported),
-        ),
-        (
-            MapKind::Intel64,
-            7..20,
-            4,
-            (NotFound, NotFound),
-            (NotFound, NotFound),
-        ),
-        (
-            MapKind::Intel64,
-            20..28,
-            4,
-            (Success, Unsupported),
-            (InvalidParameter, Unsupported),
-        ),
-        (
-            MapKind::Intel64,
-            28..30,
-            8,
-            (Success, Unsupported),
-            (InvalidParameter, Unsupported),
-        ),
-        (
-            MapKind::Intel64,
-            30..47,
-            8,
-            (Success, Success),
-            (InvalidParameter, InvalidParameter),
-        ),
-        (
-            MapKind::Intel64,
-            47..51,
-            4,
-            (NotFound, NotFound),
-            (NotFound, NotFound),
-        ),
-        (
-            MapKind::Intel64,
-            51..52,
-            8,
-            (Success, Success),
-            (InvalidParameter, InvalidParameter),
-        ),
-        (
-            MapKind::Intel64,
-            52..54,
-            8,
-            (Success, Unsupported),
-            (InvalidParameter, Unsupported),
-        ),
-        (
-            MapKind::Intel64,
-            54..55,
-            4,
-            (Success, Unsupported),
-            (InvalidParameter, Unsupported),
-        ),
-        (
-            MapKind::Intel64,
-            55..60,
-            4,
-            (NotFound, NotFound),
-            (NotFound, NotFound),
-        ),
-        (
-            MapKind::Intel64,
-            512..513,
-            24,
-            (NotFound, NotFound),
-            (InvalidParameter, NotFound),
-        ),
-        (
-            MapKind::Intel64,
-            513..514,
-            1,
-            (Success, Success),
-            (InvalidParameter, Success),
-        ),
-        (
-            MapKind::Intel64,
-            514..515,
-            8,
-            (Success, Success),
-            (InvalidParameter, Success),
-        ),
-        (
-            MapKind::Intel64,
-            1024..1026,
-            2,
-            (Success, Success),
-            (InvalidParameter, InvalidParameter),
-        ),
-        (
-            MapKind::Ia32,
-            0..20,
-            4,
-            (NotFound, NotFound),
-            (NotFound, NotFound),
-        ),
-        (
-            MapKind::Ia32,
-            20..26,
-            4,
-            (Success, Unsupported),
-            (InvalidParameter, Unsupported),
-        ),
-        (
-            MapKind::Ia32,
-            26..27,
-            4,
-            (NotFound, NotFound),
-            (NotFound, NotFound),
-        ),
-        (
-            MapKind::Ia32,
-            27..30,
-            4,
-            (Success, Unsupported),
-            (InvalidParameter, Unsupported),
-        ),
-        (
-            MapKind::Ia32,
-            30..38,
-            4,
-            (NotFound, NotFound),
-            (NotFound, NotFound),
-        ),
-        (
-            MapKind::Ia32,
-            38..47,
-            4,
-            (Success, Success),
-            (InvalidParameter, InvalidParameter),
-        ),
-        (
-            MapKind::Ia32,
-            51..52,
-            4,
-            (Success, Success),
-            (InvalidParameter, InvalidParameter),
-        ),
-        (
-            MapKind::Ia32,
-            52..54,
-            4,
-            (Success, Unsupported),
-            (InvalidParameter, Unsupported),
-        ),
-        (
-            MapKind::Ia32,
-            54..55,
-            4,
-            (NotFound, NotFound),
-            (NotFound, NotFound),
-        ),
-        (
-            MapKind::Ia32,
-            512..513,
-            24,
-            (NotFound, NotFound),
-            (InvalidParameter, NotFound),
-        ),
-        (
-            MapKind::Ia32,
-            513..514,
-            1,
-            (Success, Success),
-            (InvalidParameter, Success),
-        ),
-        (
-            MapKind::Ia32,
-            514..515,
-            8,
-            (Success, Success),
-            (InvalidParameter, Success),
-        ),
-        (
-            MapKind::Ia32,
-            1024..1026,
-            2,
-            (Success, Success),
-            (InvalidParameter, InvalidParameter),
-        ),
+    // The map, the numbers, the register's width, and the answers.
+    for (kind, numbers, width, answer) in [
+        (MapKind::Intel64, 0..4, 4, ABSENT),
+        (MapKind::Intel64, 4..7, 8, READ_ONLY),
+        (MapKind::Intel64, 7..20, 4, ABSENT),
+        (MapKind::Intel64, 20..28, 4, READ_ONLY),
+        (MapKind::Intel64, 28..30, 8, READ_ONLY),
+        (MapKind::Intel64, 30..47, 8, WRITABLE),
+        (MapKind::Intel64, 47..51, 4, ABSENT),
+        (MapKind::Intel64, 51..52, 8, WRITABLE),
+        (MapKind::Intel64, 52..54, 8, READ_ONLY),
+        (MapKind::Intel64, 54..55, 4, READ_ONLY),
+        (MapKind::Intel64, 55..60, 4, ABSENT),
+        (MapKind::Intel64, 512..513, 24, IO),
+        (MapKind::Intel64, 513..514, 1, IGNORED),
+        (MapKind::Intel64, 514..515, 8, IGNORED),
+        (MapKind::Intel64, 1024..1026, 2, WRITABLE),
+        (MapKind::Ia32, 0..20, 4, ABSENT),
+        (MapKind::Ia32, 20..26, 4, READ_ONLY),
+        (MapKind::Ia32, 26..27, 4, ABSENT),
+        (MapKind::Ia32, 27..30, 4, READ_ONLY),
+        (MapKind::Ia32, 30..38, 4, ABSENT),
+        (MapKind::Ia32, 38..47, 4, WRITABLE),
+        (MapKind::Ia32, 51..52, 4, WRITABLE),
+        (MapKind::Ia32, 52..54, 4, READ_ONLY),
+        (MapKind::Ia32, 54..55, 4, ABSENT),
+        (MapKind::Ia32, 512..513, 24, IO),
+        (MapKind::Ia32, 513..514, 1, IGNORED),
+        (MapKind::Ia32, 514..515, 8, IGNORED),
+        (MapKind::Ia32, 1024..1026, 2, WRITABLE),
     ] {
         let image = Image::new(kind, &ZEROS[..image_size(kind)])?;
         for reg in numbers {
@@ -223,8 +87,8 @@ fn every_register_at_its_widths(rt: HostRuntime) -> Result<(), Fail> {
                 answers(image, true, reg, 0, false),
                 (InvalidParameter, InvalidParameter)
             );
-            assert_eq!(rt; answers(image, true, reg, width, false), own);
-            assert_eq!(rt; answers(image, true, reg, width, true), more);
+            assert_eq!(rt; answers(image, true, reg, width, false), answer.own);
+            assert_eq!(rt; answers(image, true, reg, width, true), answer.more);
         }
     }
     Ok(())
@@ -334,4 +198,21 @@ fn what_reads_refuse(rt: HostRuntime) -> Result<(), Fail> {
     assert_eq!(rt; read_register(&image, true, 7, 513, &mut byte), Success);
     assert_eq!(rt; byte, [32]);
     Ok(())
+}
+
+#[test]
+fn own_widths(rt: HostRuntime) {
+    for (kind, reg, width) in [
+        (MapKind::Intel64, 4, 8),
+        (MapKind::Intel64, 54, 4),
+        (MapKind::Intel64, 7, 8),
+        (MapKind::Ia32, 38, 4),
+        (MapKind::Ia32, 4, 8),
+        (MapKind::Ia32, 512, 24),
+        (MapKind::Ia32, 513, 1),
+        (MapKind::Ia32, 514, 8),
+        (MapKind::Ia32, 1024, 2),
+    ] {
+        assert_eq!(rt; own_width(kind, reg), width);
+    }
 }

@@ -1,9 +1,8 @@
-use Rattle.std.proofs.Common.{◌≡◌, ◌<◌, ◌^◌, ℕ, get_or, refl, sym, ap, subst, ◌∙◌}
+use Rattle.std.proofs.Common.{◌≡◌, ◌<◌, ◌^◌, sym, ap, subst, ◌∙◌}
 use Rattle.smm_base.specs.declared.kinds.MapKind.{MapKind}
-use Rattle.save_state_map.specs.declared.field.Field.{Field}
 use Rattle.save_state_map.specs.declared.field.TheConstants.{FIELDS}
-use Rattle.save_state_map.specs.Images.{ImageContents, with_field}
-use Rattle.cpu_regs.specs.Entering.{io_state, entered, with_fields, saved}
+use Rattle.save_state_map.specs.Images.{ImageContents}
+use Rattle.cpu_regs.specs.Entering.{io_state, entered, saved}
 use Rattle.cpu_regs.proofs.Saving.{AllFit, goes_on, ends, each_field, byte_stays, entered_fits}
 use Rattle.cpu_regs.proofs.switch.enter.Goals as goal
 

@@ -1,7 +1,5 @@
 use Rattle.std.proofs.Common.{◌≡◌, drop}
 use Rattle.save_state_map.specs.declared.field.TheConstants.{FIELDS}
-use Rattle.save_state_map.specs.Images.{IsImage}
-use Rattle.cpu_regs.specs.Registers.{Registers}
 use Rattle.cpu_regs.specs.Entering.{entered, with_fields}
 use Rattle.cpu_regs.proofs.switch.enter.Given as goal
 

@@ -2,7 +2,6 @@ use Rattle.std.proofs.Common.{◌≡◌, ◌<◌, ◌^◌, Some, ℕ, sym, subst
 use Rattle.save_state_map.specs.declared.field.Place.{Place}
 use Rattle.save_state_map.specs.Fields.{field_place}
 use Rattle.save_state_map.specs.Images.{with_field}
-use Rattle.cpu_regs.specs.Entering.{entered}
 use Rattle.cpu_regs.proofs.Saving.{field_set}
 use Rattle.cpu_regs.proofs.switch.put.Goals as goal
 

@@ -1,12 +1,11 @@
 use Rattle.std.proofs.Common.{◌≡◌, ◌↔◌, ◌≤◌, ℕ, List, ◌++◌, length, drop, Option, Some, sym, ap, subst, ◌∙◌, arith}
 use Rattle.std.specs.Prelude.{IfSome, IsTrue}
 use Rattle.std.specs.Bool.{OnTrue}
-use Rattle.std.specs.Int.{bytes_low_first}
 use Rattle.smm_base.specs.declared.kinds.MapKind.{MapKind}
 use Rattle.byteorder.specs.Endian.{little_number}
 use Rattle.save_state_map.specs.declared.field.Place.{Place}
 use Rattle.save_state_map.specs.Fields.{field_place}
-use Rattle.save_state_map.specs.Images.{with_field, Accepts, field_of}
+use Rattle.save_state_map.specs.Images.{with_field, Accepts}
 use Rattle.save_state_access.proofs.LowBytes.{replaced, low_written, width_small}
 use Rattle.save_state_access.proofs.service.put_in_field.Goals as goal
 

@@ -1,7 +1,7 @@
-use Rattle.std.proofs.Common.{◌≡◌, ◌<◌, ℕ, List, length, map, get_or, refl, sym, ap, subst, ◌∙◌, arith}
+use Rattle.std.proofs.Common.{◌≡◌, map, refl, sym, ◌∙◌}
 use Rattle.std.proofs.lemmas.List.{length-set, get_or-map}
 use Rattle.save_state_map.specs.declared.field.TheConstants.{FIELDS}
-use Rattle.cpu_regs.specs.Registers.{Registers, IsRegisters, kept_number, loaded}
+use Rattle.cpu_regs.specs.Registers.{kept_number}
 use Rattle.cpu_regs.proofs.Loading.{filled_more, filled, loaded_registers}
 use Rattle.cpu_regs.proofs.regs.Regs.of.Goals as goal
 
