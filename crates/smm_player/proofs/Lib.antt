@@ -1,0 +1,4 @@
+pub mod FileLemmas
+pub mod ReplayLemmas
+pub mod ScheduleLemmas
+pub mod WordLemmas

@@ -1,0 +1,18 @@
+// The player: it replays a schedule on a platform, and writes the report and the images.
+#![tactic(auto)]
+
+mod command;
+mod fault;
+mod files;
+mod finish;
+mod input;
+mod load;
+
+mod replay;
+mod report;
+mod schedule;
+mod words;
+
+pub use fault::Fault;
+pub use input::Input;
+pub use command::play;
