@@ -4,7 +4,6 @@ ghost use Rattle.smm_player.specs.Lines.{space, colon, line_end, joined, actor_t
 
 use itoa::Buffer;
 use smm_base::{After, HandlerType, NoMemory};
-use std::alloc::AllocError;
 use sync_words::{Access, Event, Label, StartRefusal, Status, WordId};
 use uuid::Uuid;
 
