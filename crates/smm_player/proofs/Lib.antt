@@ -1,4 +1,6 @@
 pub mod FileLemmas
+pub mod PlayLemmas
 pub mod ReplayLemmas
+mod ReportLemmas
 pub mod ScheduleLemmas
 pub mod WordLemmas

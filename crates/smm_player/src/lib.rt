@@ -6,13 +6,15 @@ mod fault;
 mod files;
 mod finish;
 mod input;
+mod lines;
 mod load;
-
 mod replay;
 mod report;
 mod schedule;
 mod words;
 
+pub use command::play;
 pub use fault::Fault;
 pub use input::Input;
-pub use command::play;
+pub use lines::push_event;
+pub use report::write_report;
