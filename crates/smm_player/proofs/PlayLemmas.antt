@@ -1,5 +1,6 @@
 -- What a command's end at a fault comes to, fault by fault.
-use Rattle.std.proofs.Common.{◌≡◌, ◌≢◌, ℕ, ◌⊎◌, Bool, true, false, List, Option, None, Some, Result, Ok, Err, IfSome, IsOk, refl, ap, sym, subst, ◌∙◌, arith, inl, inr}
+use Rattle.std.proofs.Common.{◌≡◌, ◌≢◌, ℕ, ◌+◌, ◌-◌, ◌^◌, ◌≤◌, min, ◌⊎◌, Bool, true, false, List, Option, None, Some, Result, Ok, Err, IfSome, IsOk, refl, ap, sym, subst, ◌∙◌, arith, inl, inr}
+use Rattle.smm_base.specs.Faults.{Rose}
 use Rattle.smm_base.specs.Sink.{appended, GainsPrefix}
 use Rattle.smm_base.specs.Store.{FileMap}
 use Rattle.smm_player.specs.declared.input.Input.{Input}
@@ -67,16 +68,16 @@ pub end_usage_only : (words : List (List ℕ)) (files : Option FileMap) (l w s :
 end_usage_only words files l w s n fault stops ends one = usage_at words files l w s fault stops (status_is n (status_of fault) ends (λ e. omega (arith, e, one)) ∙ one)
 
 formed : (b : Bool) {P : Type 0} → b ≡ true → b ≡ false → P
-formed b yes no = cc
+formed b holds fails = cc
 
 pub end_usage : (words : List (List ℕ)) (files : Option FileMap) (l w s : Type 0) (n : ℕ) (fault : Fault) → StopsAt words files l w s fault → (n ≡ status_of fault) ⊎ (n ≡ 8) → is_step_form words ≡ false → (n ≡ 1) ⊎ (n ≡ 8)
-end_usage words files l w s n Usage stops ends no = ends
-end_usage words files l w s n (Read input) stops ends no = formed (is_step_form words) stops.0 no
-end_usage words files l w s n (TooLong input) stops ends no = formed (is_step_form words) stops.0 no
-end_usage words files l w s n (NotBuilt input) stops ends no = formed (is_step_form words) stops.0 no
-end_usage words files l w s n Write stops ends no = formed (is_step_form words) stops.0 no
-end_usage words files l w s n Save stops ends no = formed (is_step_form words) stops.0 no
-end_usage words files l w s n Memory stops ends no = elim ends [ inl is ↦ inr is | inr is ↦ inr is ]
+end_usage words files l w s n Usage stops ends unformed = ends
+end_usage words files l w s n (Read input) stops ends unformed = formed (is_step_form words) stops.0 unformed
+end_usage words files l w s n (TooLong input) stops ends unformed = formed (is_step_form words) stops.0 unformed
+end_usage words files l w s n (NotBuilt input) stops ends unformed = formed (is_step_form words) stops.0 unformed
+end_usage words files l w s n Write stops ends unformed = formed (is_step_form words) stops.0 unformed
+end_usage words files l w s n Save stops ends unformed = formed (is_step_form words) stops.0 unformed
+end_usage words files l w s n Memory stops ends unformed = elim ends [ inl is ↦ inr is | inr is ↦ inr is ]
 
 -- a line that is told after nothing was written
 tells_all : (f g : Type 0) → (f → g) → (before middle after : Option (List ℕ)) (line : List ℕ) → middle ≡ before → Tells f middle after line → Tells g before after line
@@ -88,7 +89,7 @@ fault_told : (words : List (List ℕ)) (files : Option FileMap) (l f w s : Type 
     middle ≡ before → TellsOrRunsOut f middle after words fault n → n ≢ 8 → IsFaulted words files l w s before after n
 fault_told words files l f w s wider before middle after n fault stops is ends apart =
     elim ends [
-      inl x ↦ record { fault = fault; status_is = sym x.0; cause = stops; line = tells_all f w wider before middle after (fault_line words fault) is x.1 }
+      | inl x ↦ record { fault = fault; status_is = sym x.0; cause = stops; line = tells_all f w wider before middle after (fault_line words fault) is x.1 }
       | inr x ↦ absurd (apart x.0)
     ]
 
@@ -132,7 +133,7 @@ told_not_7 f before after words fault n apart ends seven = elim ends [ inl x ↦
 told_runs_out : (words : List (List ℕ)) (f : Type 0) (before middle after : Option (List ℕ)) (n : ℕ) (fault : Fault) → status_of fault ≢ 8 → middle ≡ before → TellsOrRunsOut f middle after words fault n → n ≡ 8 → RunsOut words before after
 told_runs_out words f before middle after n fault apart is ends eight =
     let P : Option (List ℕ) → Type 0 = λ x. GainsBoth x after (fault_line words fault) (fault_line words Memory) in
-    elim ends [ inl x ↦ absurd (apart (sym x.0 ∙ eight)) | inr x ↦ (fault_line words fault, (inr (fault, (apart, refl)), subst P is x.1)) ]
+    elim ends [ inl x ↦ absurd (apart (sym x.0 ∙ eight)) | inr x ↦ (fault_line words fault, inr (fault, apart, refl), subst P is x.1) ]
 
 -- the status that is due for the held files
 pub end_due : (words : List (List ℕ)) (files : Option FileMap) (l w s : Type 0) (before middle : Option (List ℕ)) (n : ℕ) (fault : Fault) → StopsAt words files l w s fault →
@@ -166,7 +167,7 @@ end_outside words files l f w s stays before middle after n (Read input) stops w
 end_outside words files l f w s stays before middle after n (TooLong input) stops wrote unsaved ends seven = absurd (told_not_7 f middle after words (TooLong input) n (λ e. omega (arith, e)) ends seven)
 end_outside words files l f w s stays before middle after n (NotBuilt input) stops wrote unsaved ends seven = absurd (told_not_7 f middle after words (NotBuilt input) n (λ e. omega (arith, e)) ends seven)
 end_outside words files l f w s stays before middle after n Write stops wrote unsaved ends seven =
-    let P : Option (List ℕ) → Type 0 = λ x. WritesPart words files before x in inl (stops.1, (unsaved, subst P (sym ends.1) wrote))
+    let P : Option (List ℕ) → Type 0 = λ x. WritesPart words files before x in inl (stops.1, unsaved, subst P (sym ends.1) wrote)
 end_outside words files l f w s stays before middle after n Save stops wrote unsaved ends seven =
     let P : Option (List ℕ) → Type 0 = λ x. WritesAll words files before x in inr (stops.1, subst P (sym ends.1) wrote)
 end_outside words files l f w s stays before middle after n Memory stops wrote unsaved ends seven = absurd (omega (arith, ends.0, seven))
@@ -180,7 +181,7 @@ end_runs_out words files f before middle after n (TooLong input) wrote ends eigh
 end_runs_out words files f before middle after n (NotBuilt input) wrote ends eight = told_runs_out words f before middle after n (NotBuilt input) (λ e. omega (arith, e)) wrote ends eight
 end_runs_out words files f before middle after n Write wrote ends eight = absurd (omega (arith, ends.0, eight))
 end_runs_out words files f before middle after n Save wrote ends eight = absurd (omega (arith, ends.0, eight))
-end_runs_out words files f before middle after n Memory wrote ends eight = (report_of wrote.0, (inl (wrote.0, refl), (middle, (wrote.1, ends.1))))
+end_runs_out words files f before middle after n Memory wrote ends eight = (report_of wrote.0, inl (wrote.0, refl), (middle, wrote.1, ends.1))
 
 pub end_unsaved : (stays f : Type 0) (middle after : Option (List ℕ)) (words : List (List ℕ)) (n : ℕ) (fault : Fault) → UnlessSaved stays fault → Finishes f middle after words n fault → n ≢ 7 → stays
 end_unsaved stays f middle after words n Usage unsaved ends apart = unsaved
@@ -190,3 +191,20 @@ end_unsaved stays f middle after words n (NotBuilt input) unsaved ends apart = u
 end_unsaved stays f middle after words n Write unsaved ends apart = unsaved
 end_unsaved stays f middle after words n Save unsaved ends apart = absurd (apart ends.0)
 end_unsaved stays f middle after words n Memory unsaved ends apart = unsaved
+
+-- a count that rose in the later or in the earlier part of a call rose in the call
+pub Rose-later : (a b c : ℕ) → a ≤ b → Rose b c → Rose a c
+Rose-later a b c low rose = omega arith
+
+pub Rose-further : (a b c : ℕ) → b ≤ c → Rose a b → Rose a c
+Rose-further a b c high rose = omega arith
+
+-- a cause stays one where the count of failed writes rises later
+pub stops_wider : (words : List (List ℕ)) (files : Option FileMap) (l w v s : Type 0) → (w → v) → (fault : Fault) → StopsAt words files l w s fault → StopsAt words files l v s fault
+stops_wider words files l w v s wider Usage stops = stops
+stops_wider words files l w v s wider (Read input) stops = stops
+stops_wider words files l w v s wider (TooLong input) stops = stops
+stops_wider words files l w v s wider (NotBuilt input) stops = stops
+stops_wider words files l w v s wider Write stops = (stops.0, wider stops.1)
+stops_wider words files l w v s wider Save stops = stops
+stops_wider words files l w v s wider Memory stops = stops

@@ -57,12 +57,7 @@ fn perform<F: Store, K: Sink>(
 /// | 9 | `fault not-built NAME` | the file asks for a part that is not built |
 ///
 /// With another status than 0 and 7 nothing is saved, and no name but AFTER ever changes.
-pub fn play<F: Store, K: Sink>(
-    alloc: Global,
-    words: &Vec<String>,
-    store: &mut F,
-    out: &mut K,
-) -> u8
+pub fn play<F: Store, K: Sink>(alloc: Global, words: &Vec<String>, store: &mut F, out: &mut K) -> u8
     ensures status { IsTrue (is_exit_status result) }
 
     // Status 0: the report is that of a replay, whose labels are a run of the rendezvous machine.

@@ -4,7 +4,7 @@ ghost use Rattle.smm_player.specs.Files.{limit_text};
 ghost use Rattle.smm_player.specs.Words.{texts};
 
 use crate::input::Input;
-use crate::words::{input_name};
+use crate::words::input_name;
 use smm_base::NoMemory;
 use std::alloc::Global;
 use std::convert::From;
@@ -82,7 +82,12 @@ pub(crate) fn line_of(alloc: Global, words: &Vec<String>, fault: Fault) -> Resul
         Fault::Usage => joined(alloc, "fault usage", "", "\n"),
         Fault::Read(input) => joined(alloc, "fault read ", input_name(words, input), "\n"),
         Fault::TooLong(input) => {
-            joined(alloc, "fault too-long ", input_name(words, input), limit_ending(input))
+            joined(
+                alloc,
+                "fault too-long ",
+                input_name(words, input),
+                limit_ending(input),
+            )
         }
         Fault::NotBuilt(input) => joined(alloc, "fault not-built ", input_name(words, input), "\n"),
         Fault::Write | Fault::Save => Ok(Vec::new(alloc)),

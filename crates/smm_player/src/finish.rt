@@ -11,7 +11,12 @@ use smm_base::{Sink, WriteError, write_all};
 use std::alloc::Global;
 
 // Writes the line of a fault.
-fn write_line<K: Sink>(alloc: Global, words: &Vec<String>, fault: Fault, out: &mut K) -> Result<(), WriteError>
+fn write_line<K: Sink>(
+    alloc: Global,
+    words: &Vec<String>,
+    fault: Fault,
+    out: &mut K,
+) -> Result<(), WriteError>
     ensures appends { OnOk result (K.written out.new ≡ appended (K.written out.old) (fault_line (texts words.now.items) fault)) }
     ensures prefix { OnErr result (GainsPrefix (K.written out.old) (K.written out.new) (fault_line (texts words.now.items) fault)) }
     ensures failed { IsErrOf result WriteError.Failed → Rose (K.faults out.old) (K.faults out.new) }

@@ -18,3 +18,6 @@ pub use fault::Fault;
 pub use input::Input;
 pub use lines::push_event;
 pub use report::write_report;
+
+#[cfg(test)]
+mod tests;

@@ -44,7 +44,11 @@ fn load_input<F: Store>(
 }
 
 // Loads the platform, and tests it.
-fn load_platform<F: Store>(alloc: Global, words: &Vec<String>, store: &mut F) -> Result<Vec<u8>, Fault>
+fn load_platform<F: Store>(
+    alloc: Global,
+    words: &Vec<String>,
+    store: &mut F,
+) -> Result<Vec<u8>, Fault>
     ensures due { IfOk result (λ bytes. IsDue (told_at platform_due (name_of (texts words.now.items) Platform) (F.files store.old)) bytes.items) }
     ensures cause { IfErr result (HasCause (told_at platform_due (name_of (texts words.now.items) Platform) (F.files store.old)) (Rose (F.failed_loads store.old) (F.failed_loads store.new))) }
     ensures files_stay { F.files store.new ≡ F.files store.old }
@@ -60,7 +64,11 @@ fn load_platform<F: Store>(alloc: Global, words: &Vec<String>, store: &mut F) ->
 }
 
 // Loads the images, and tests them.
-fn load_images<F: Store>(alloc: Global, words: &Vec<String>, store: &mut F) -> Result<Vec<u8>, Fault>
+fn load_images<F: Store>(
+    alloc: Global,
+    words: &Vec<String>,
+    store: &mut F,
+) -> Result<Vec<u8>, Fault>
     ensures held { IfOk result (λ bytes. IfSome (F.files store.old) (λ held. held (name_of (texts words.now.items) Images) ≡ Option.Some bytes.items)) }
     ensures due { IfOk result (λ bytes. IsDue (told_at images_due (name_of (texts words.now.items) Images) (F.files store.old)) bytes.items) }
     ensures cause { IfErr result (HasCause (told_at images_due (name_of (texts words.now.items) Images) (F.files store.old)) (Rose (F.failed_loads store.old) (F.failed_loads store.new))) }
@@ -77,7 +85,11 @@ fn load_images<F: Store>(alloc: Global, words: &Vec<String>, store: &mut F) -> R
 }
 
 // Loads the schedule, and reads it.
-fn load_schedule<F: Store>(alloc: Global, words: &Vec<String>, store: &mut F) -> Result<Vec<u16>, Fault>
+fn load_schedule<F: Store>(
+    alloc: Global,
+    words: &Vec<String>,
+    store: &mut F,
+) -> Result<Vec<u16>, Fault>
     ensures known { IfOk result (λ actors. All (λ actor. actor ≤ 1) actors.items) }
     ensures due { IfOk result (λ actors. IsDue (told_at schedule_due (name_of (texts words.now.items) Schedule) (F.files store.old)) actors.items) }
     ensures cause { IfErr result (HasCause (told_at schedule_due (name_of (texts words.now.items) Schedule) (F.files store.old)) (Rose (F.failed_loads store.old) (F.failed_loads store.new))) }
@@ -94,7 +106,11 @@ fn load_schedule<F: Store>(alloc: Global, words: &Vec<String>, store: &mut F) ->
 }
 
 // Loads and tests the three input files, one after another.
-pub(crate) fn load_inputs<F: Store>(alloc: Global, words: &Vec<String>, store: &mut F) -> Result<Inputs, Fault>
+pub(crate) fn load_inputs<F: Store>(
+    alloc: Global,
+    words: &Vec<String>,
+    store: &mut F,
+) -> Result<Inputs, Fault>
     ensures known { IfOk result (λ inputs. All (λ actor. actor ≤ 1) inputs.schedule.items) }
     ensures held { IfOk result (λ inputs. IfSome (F.files store.old) (λ held. held (name_of (texts words.now.items) Images) ≡ Option.Some inputs.images.items)) }
     ensures due { IfOk result (λ inputs. IsDue (told_due (texts words.now.items) (F.files store.old)) inputs.schedule.items) }

@@ -39,7 +39,10 @@ fn read_item(piece: &[u8]) -> Option<Item>
         [actor] => item_of(*actor, 1),
         [actor, b'*', ones @ b'1'..=b'9'] => item_of(*actor, usize::from(*ones - b'0')),
         [actor, b'*', tens @ b'1'..=b'9', ones @ b'0'..=b'9'] => {
-            item_of(*actor, usize::from(*tens - b'0') * 10 + usize::from(*ones - b'0'))
+            item_of(
+                *actor,
+                usize::from(*tens - b'0') * 10 + usize::from(*ones - b'0'),
+            )
         }
         _ => None,
     }
@@ -83,14 +86,7 @@ fn count_spaces(text: &[u8]) -> usize
 }
 
 // The actors of a schedule of the short form, if the text is one.
-#[tactic(
-    auto,
-    using(
-        crate::proofs::ScheduleLemmas::schedule_of_empty,
-        crate::proofs::ScheduleLemmas::schedule_of_many,
-        crate::proofs::ScheduleLemmas::schedule_of_few
-    )
-)]
+#[tactic(auto, using(crate::proofs::ScheduleLemmas::schedule_of_empty, crate::proofs::ScheduleLemmas::schedule_of_many, crate::proofs::ScheduleLemmas::schedule_of_few))]
 pub(crate) fn read_schedule(alloc: Global, text: &[u8]) -> Result<Option<Vec<u16>>, NoMemory>
     ensures actors { IfOk result (λ read. option_map (λ actors. actors.items) read ≡ schedule_of text.now) }
     ensures known { IfOk result (λ read. IfSome read (λ actors. All (λ actor. actor ≤ 1) actors.items)) }

@@ -18,9 +18,10 @@ returns-in-Some-after_zeros-2 c =
     let a = c.in-Some.rest.now in
     let b = c.in-Some-after_zeros.rest.now in
     let d = c.in-Some-after.rest.now in
-    let e = c.in-Some-after_zeros-2.rest.now in
-    (λ t. images_made c.args.bytes.now a b d e c.in-Some.ensures c.in-Some-after_zeros.ensures c.in-Some-after.ensures c.in-Some-after_zeros-2.ensures (empty_test e c.is_empty.result c.is_empty.ensures t),
-     λ is. test_empty e c.is_empty.result c.is_empty.ensures (after_all c.args.bytes.now a b d e c.in-Some.ensures c.in-Some-after_zeros.ensures c.in-Some-after.ensures c.in-Some-after_zeros-2.ensures is))
+    let e = c.in-Some-after_zeros-2.rest.now in (
+      λ t. images_made c.args.bytes.now a b d e c.in-Some.ensures c.in-Some-after_zeros.ensures c.in-Some-after.ensures c.in-Some-after_zeros-2.ensures (empty_test e c.is_empty.result c.is_empty.ensures t),
+      λ is. test_empty e c.is_empty.result c.is_empty.ensures (after_all c.args.bytes.now a b d e c.in-Some.ensures c.in-Some-after_zeros.ensures c.in-Some-after.ensures c.in-Some-after_zeros-2.ensures is),
+    )
 
 pub returns-in-None : goal.returns-in-None
 returns-in-None c = (λ t. cc, λ is. absurd (c.in-None.ensures [] (after_end c.args.bytes.now c.in-Some.rest.now c.in-Some-after_zeros.rest.now c.in-Some-after.rest.now c.in-Some.ensures c.in-Some-after_zeros.ensures c.in-Some-after.ensures is ∙ sym (append-nil (zeros 256)))))

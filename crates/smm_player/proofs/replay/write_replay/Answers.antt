@@ -10,4 +10,6 @@ returns-in-Ok-clause-appends g c =
     rw (← is, ← c.deref.ensures.value) c.write_report.ensures.appends
 
 pub returns-in-Ok-clause-prefix : goal.returns-in-Ok-clause-prefix
-returns-in-Ok-clause-prefix g c = ?
+returns-in-Ok-clause-prefix g c =
+    let is = report_is c.args.schedule.now c.events.result.now.items c.in-Ok.world.world c.complete.result (c.events.ensures ∙ c.in-Ok.ensures.events) c.in-Ok.ensures.world c.complete.ensures in
+    rw (← is, ← c.deref.ensures.value) c.write_report.ensures.prefix
