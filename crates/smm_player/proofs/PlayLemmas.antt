@@ -1,0 +1,210 @@
+-- What a command's end at a fault comes to, fault by fault.
+use Rattle.std.proofs.Common.{◌≡◌, ◌≢◌, ℕ, ◌+◌, ◌-◌, ◌^◌, ◌≤◌, min, ◌⊎◌, Bool, true, false, List, Option, None, Some, Result, Ok, Err, IfSome, IsOk, refl, ap, sym, subst, ◌∙◌, arith, inl, inr}
+use Rattle.smm_base.specs.Faults.{Rose}
+use Rattle.smm_base.specs.Sink.{appended, GainsPrefix}
+use Rattle.smm_base.specs.Store.{FileMap}
+use Rattle.smm_player.specs.declared.input.Input.{Input}
+use Rattle.smm_player.specs.declared.fault.Fault.{Fault}
+use Rattle.smm_player.specs.declared.fault.Fault.TheVariants.{Usage, Read, TooLong, NotBuilt, Write, Save, Memory}
+use Rattle.smm_player.specs.Fault.{status_of, fault_line}
+use Rattle.smm_player.specs.Finish.{GainsBoth, Tells, TellsOrRunsOut, Finishes}
+use Rattle.smm_player.specs.Replay.{report_of, UnlessSaved}
+use Rattle.smm_player.specs.Verdict.{Finding, due, told_due, HasCause, IsDue}
+use Rattle.smm_player.specs.Words.{is_step_form}
+use Rattle.smm_player.specs.Play.{is_exit_status, StopsAt, WritesPart, WritesAll, WroteBefore, IsFaulted, FailsOutside, CanPrecede, RunsOut, IsDueStatus}
+
+told_status : (write_failed : Type 0) (before after : Option (List ℕ)) (words : List (List ℕ)) (fault : Fault) (n : ℕ) → TellsOrRunsOut write_failed before after words fault n → (n ≡ status_of fault) ⊎ (n ≡ 8)
+told_status write_failed before after words fault n ends = elim ends [ inl x ↦ inl x.0 | inr x ↦ inr x.0 ]
+
+-- a command ends with its fault's status, or with that of no memory
+pub end_status : (write_failed : Type 0) (before after : Option (List ℕ)) (words : List (List ℕ)) (n : ℕ) (fault : Fault) → Finishes write_failed before after words n fault → (n ≡ status_of fault) ⊎ (n ≡ 8)
+end_status write_failed before after words n Usage ends = told_status write_failed before after words Usage n ends
+end_status write_failed before after words n (Read input) ends = told_status write_failed before after words (Read input) n ends
+end_status write_failed before after words n (TooLong input) ends = told_status write_failed before after words (TooLong input) n ends
+end_status write_failed before after words n (NotBuilt input) ends = told_status write_failed before after words (NotBuilt input) n ends
+end_status write_failed before after words n Write ends = inl ends.0
+end_status write_failed before after words n Save ends = inl ends.0
+end_status write_failed before after words n Memory ends = inl ends.0
+
+-- a status other than 8 is the fault's
+status_is : (n m : ℕ) → (n ≡ m) ⊎ (n ≡ 8) → n ≢ 8 → m ≡ n
+status_is n m ends apart = elim ends [ inl is ↦ sym is | inr is ↦ absurd (apart is) ]
+
+exits : (fault : Fault) → is_exit_status (status_of fault) ≡ true
+exits Usage = refl
+exits (Read input) = refl
+exits (TooLong input) = refl
+exits (NotBuilt input) = refl
+exits Write = refl
+exits Save = refl
+exits Memory = refl
+
+pub end_exits : (n : ℕ) (fault : Fault) → (n ≡ status_of fault) ⊎ (n ≡ 8) → is_exit_status n ≡ true
+end_exits n fault ends = elim ends [ inl is ↦ ap is_exit_status is ∙ exits fault | inr is ↦ ap is_exit_status is ]
+
+never_0 : (fault : Fault) → status_of fault ≢ 0
+never_0 Usage is = omega arith
+never_0 (Read input) is = omega arith
+never_0 (TooLong input) is = omega arith
+never_0 (NotBuilt input) is = omega arith
+never_0 Write is = omega arith
+never_0 Save is = omega arith
+never_0 Memory is = omega arith
+
+-- no fault ends with 0
+pub end_not_0 : (n : ℕ) (fault : Fault) → (n ≡ status_of fault) ⊎ (n ≡ 8) → n ≢ 0
+end_not_0 n fault ends zero = elim ends [ inl is ↦ never_0 fault (sym is ∙ zero) | inr is ↦ omega (arith, is, zero) ]
+
+usage_at : (words : List (List ℕ)) (files : Option FileMap) (l w s : Type 0) (fault : Fault) → StopsAt words files l w s fault → status_of fault ≡ 1 → is_step_form words ≡ false
+usage_at words files l w s Usage stops is = stops
+usage_at words files l w s (Read input) stops is = absurd (omega (arith, is))
+usage_at words files l w s (TooLong input) stops is = absurd (omega (arith, is))
+usage_at words files l w s (NotBuilt input) stops is = absurd (omega (arith, is))
+usage_at words files l w s Write stops is = absurd (omega (arith, is))
+usage_at words files l w s Save stops is = absurd (omega (arith, is))
+usage_at words files l w s Memory stops is = absurd (omega (arith, is))
+
+pub end_usage_only : (words : List (List ℕ)) (files : Option FileMap) (l w s : Type 0) (n : ℕ) (fault : Fault) → StopsAt words files l w s fault → (n ≡ status_of fault) ⊎ (n ≡ 8) → n ≡ 1 → is_step_form words ≡ false
+end_usage_only words files l w s n fault stops ends one = usage_at words files l w s fault stops (status_is n (status_of fault) ends (λ e. omega (arith, e, one)) ∙ one)
+
+formed : (b : Bool) {P : Type 0} → b ≡ true → b ≡ false → P
+formed b holds fails = cc
+
+pub end_usage : (words : List (List ℕ)) (files : Option FileMap) (l w s : Type 0) (n : ℕ) (fault : Fault) → StopsAt words files l w s fault → (n ≡ status_of fault) ⊎ (n ≡ 8) → is_step_form words ≡ false → (n ≡ 1) ⊎ (n ≡ 8)
+end_usage words files l w s n Usage stops ends unformed = ends
+end_usage words files l w s n (Read input) stops ends unformed = formed (is_step_form words) stops.0 unformed
+end_usage words files l w s n (TooLong input) stops ends unformed = formed (is_step_form words) stops.0 unformed
+end_usage words files l w s n (NotBuilt input) stops ends unformed = formed (is_step_form words) stops.0 unformed
+end_usage words files l w s n Write stops ends unformed = formed (is_step_form words) stops.0 unformed
+end_usage words files l w s n Save stops ends unformed = formed (is_step_form words) stops.0 unformed
+end_usage words files l w s n Memory stops ends unformed = elim ends [ inl is ↦ inr is | inr is ↦ inr is ]
+
+-- a line that is told after nothing was written
+tells_all : (f g : Type 0) → (f → g) → (before middle after : Option (List ℕ)) (line : List ℕ) → middle ≡ before → Tells f middle after line → Tells g before after line
+tells_all f g wider before middle after line is tells =
+    let P : Option (List ℕ) → Type 0 = λ x. GainsPrefix x after line in
+    (subst P is tells.0, elim tells.1 [ inl e ↦ inl (e ∙ ap (λ x. appended x line) is) | inr h ↦ inr (wider h) ])
+
+fault_told : (words : List (List ℕ)) (files : Option FileMap) (l f w s : Type 0) → (f → w) → (before middle after : Option (List ℕ)) (n : ℕ) (fault : Fault) → StopsAt words files l w s fault →
+    middle ≡ before → TellsOrRunsOut f middle after words fault n → n ≢ 8 → IsFaulted words files l w s before after n
+fault_told words files l f w s wider before middle after n fault stops is ends apart =
+    elim ends [
+      | inl x ↦ record { fault = fault; status_is = sym x.0; cause = stops; line = tells_all f w wider before middle after (fault_line words fault) is x.1 }
+      | inr x ↦ absurd (apart x.0)
+    ]
+
+not_8 : (n : ℕ) → (n ≡ 1) ⊎ (n ≡ 6) ⊎ (n ≡ 9) → n ≢ 8
+not_8 n one is = elim one [ inl e ↦ omega (arith, e, is) | inr more ↦ elim more [ inl e ↦ omega (arith, e, is) | inr e ↦ omega (arith, e, is) ] ]
+
+not_7 : (n : ℕ) → (n ≡ 1) ⊎ (n ≡ 6) ⊎ (n ≡ 9) → n ≢ 7
+not_7 n one is = elim one [ inl e ↦ omega (arith, e, is) | inr more ↦ elim more [ inl e ↦ omega (arith, e, is) | inr e ↦ omega (arith, e, is) ] ]
+
+-- the statuses 1, 6 and 9 tell their fault
+pub end_faulted : (words : List (List ℕ)) (files : Option FileMap) (l f w s : Type 0) → (f → w) → (before middle after : Option (List ℕ)) (n : ℕ) (fault : Fault) → StopsAt words files l w s fault →
+    WroteBefore words files before middle fault → Finishes f middle after words n fault → (n ≡ 1) ⊎ (n ≡ 6) ⊎ (n ≡ 9) → IsFaulted words files l w s before after n
+end_faulted words files l f w s wider before middle after n Usage stops wrote ends one = fault_told words files l f w s wider before middle after n Usage stops wrote ends (not_8 n one)
+end_faulted words files l f w s wider before middle after n (Read input) stops wrote ends one = fault_told words files l f w s wider before middle after n (Read input) stops wrote ends (not_8 n one)
+end_faulted words files l f w s wider before middle after n (TooLong input) stops wrote ends one = fault_told words files l f w s wider before middle after n (TooLong input) stops wrote ends (not_8 n one)
+end_faulted words files l f w s wider before middle after n (NotBuilt input) stops wrote ends one = fault_told words files l f w s wider before middle after n (NotBuilt input) stops wrote ends (not_8 n one)
+end_faulted words files l f w s wider before middle after n Write stops wrote ends one = absurd (not_7 n one ends.0)
+end_faulted words files l f w s wider before middle after n Save stops wrote ends one = absurd (not_7 n one ends.0)
+end_faulted words files l f w s wider before middle after n Memory stops wrote ends one = absurd (not_8 n one ends.0)
+
+at_fault : (finding : Finding) (fault : Fault) (n : ℕ) → finding ≡ Err fault → (n ≡ status_of fault) ⊎ (n ≡ 8) → IsDueStatus finding n
+at_fault finding fault n is ends = let P : Finding → Type 0 = λ x. IsDueStatus x n in subst P (sym is) ends
+
+at_schedule : (finding : Finding) (schedule : List ℕ) (n : ℕ) → finding ≡ Ok schedule → (n ≡ 0) ⊎ (n ≡ 7) ⊎ (n ≡ 8) → IsDueStatus finding n
+at_schedule finding schedule n is ends = let P : Finding → Type 0 = λ x. IsDueStatus x n in subst P (sym is) ends
+
+at_7 : (n : ℕ) → (n ≡ 7) ⊎ (n ≡ 8) → (n ≡ 0) ⊎ (n ≡ 7) ⊎ (n ≡ 8)
+at_7 n ends = inr ends
+
+at_memory : (finding : Finding) (n : ℕ) → n ≡ 8 → IsDueStatus finding n
+at_memory (Ok schedule) n is = inr (inr is)
+at_memory (Err fault) n is = inr is
+
+ok_apart : (finding : Finding) (fault : Fault) → IsOk finding → finding ≡ Err fault → ⊥
+ok_apart (Ok schedule) fault ok is = cc
+ok_apart (Err other) fault ok is = cc
+
+told_not_7 : (f : Type 0) (before after : Option (List ℕ)) (words : List (List ℕ)) (fault : Fault) (n : ℕ) → status_of fault ≢ 7 → TellsOrRunsOut f before after words fault n → n ≢ 7
+told_not_7 f before after words fault n apart ends seven = elim ends [ inl x ↦ apart (sym x.0 ∙ seven) | inr x ↦ omega (arith, x.0, seven) ]
+
+told_runs_out : (words : List (List ℕ)) (f : Type 0) (before middle after : Option (List ℕ)) (n : ℕ) (fault : Fault) → status_of fault ≢ 8 → middle ≡ before → TellsOrRunsOut f middle after words fault n → n ≡ 8 → RunsOut words before after
+told_runs_out words f before middle after n fault apart is ends eight =
+    let P : Option (List ℕ) → Type 0 = λ x. GainsBoth x after (fault_line words fault) (fault_line words Memory) in
+    elim ends [ inl x ↦ absurd (apart (sym x.0 ∙ eight)) | inr x ↦ (fault_line words fault, inr (fault, apart, refl), subst P is x.1) ]
+
+-- the status that is due for the held files
+pub end_due : (words : List (List ℕ)) (files : Option FileMap) (l w s : Type 0) (before middle : Option (List ℕ)) (n : ℕ) (fault : Fault) → StopsAt words files l w s fault →
+    WroteBefore words files before middle fault → (n ≡ status_of fault) ⊎ (n ≡ 8) → is_step_form words ≡ true → (l → ⊥) → IfSome files (λ held. IsDueStatus (due words held) n)
+end_due words None l w s before middle n fault stops wrote ends form unfailed = tt
+end_due words (Some held) l w s before middle n Usage stops wrote ends form unfailed = formed (is_step_form words) form stops
+end_due words (Some held) l w s before middle n (Read input) stops wrote ends form unfailed = elim stops.1 [ inl is ↦ at_fault (due words held) (Read input) n is ends | inr failed ↦ absurd (unfailed failed) ]
+end_due words (Some held) l w s before middle n (TooLong input) stops wrote ends form unfailed = at_fault (due words held) (TooLong input) n stops.1 ends
+end_due words (Some held) l w s before middle n (NotBuilt input) stops wrote ends form unfailed = at_fault (due words held) (NotBuilt input) n stops.1 ends
+end_due words (Some held) l w s before middle n Write stops wrote ends form unfailed = at_schedule (due words held) wrote.0 n wrote.1 (at_7 n ends)
+end_due words (Some held) l w s before middle n Save stops wrote ends form unfailed = at_schedule (due words held) wrote.0 n wrote.1 (at_7 n ends)
+end_due words (Some held) l w s before middle n Memory stops wrote ends form unfailed = at_memory (due words held) n (elim ends [ inl is ↦ is | inr is ↦ is ])
+
+-- nothing failed, and a schedule is due
+pub end_complete : (words : List (List ℕ)) (files : Option FileMap) (l w s : Type 0) (n : ℕ) (fault : Fault) → StopsAt words files l w s fault →
+    (n ≡ status_of fault) ⊎ (n ≡ 8) → is_step_form words ≡ true → (l → ⊥) → (w → ⊥) → (s → ⊥) → IfSome files (λ held. IsOk (due words held) → (n ≡ 0) ⊎ (n ≡ 8))
+end_complete words None l w s n fault stops ends form loads writes saves = tt
+end_complete words (Some held) l w s n Usage stops ends form loads writes saves = λ ok. formed (is_step_form words) form stops
+end_complete words (Some held) l w s n (Read input) stops ends form loads writes saves = λ ok. elim stops.1 [ inl is ↦ absurd (ok_apart (due words held) (Read input) ok is) | inr failed ↦ absurd (loads failed) ]
+end_complete words (Some held) l w s n (TooLong input) stops ends form loads writes saves = λ ok. absurd (ok_apart (due words held) (TooLong input) ok stops.1)
+end_complete words (Some held) l w s n (NotBuilt input) stops ends form loads writes saves = λ ok. absurd (ok_apart (due words held) (NotBuilt input) ok stops.1)
+end_complete words (Some held) l w s n Write stops ends form loads writes saves = absurd (writes stops.1)
+end_complete words (Some held) l w s n Save stops ends form loads writes saves = absurd (saves stops.1)
+end_complete words (Some held) l w s n Memory stops ends form loads writes saves = λ ok. inr (elim ends [ inl is ↦ is | inr is ↦ is ])
+
+-- status 7
+pub end_outside : (words : List (List ℕ)) (files : Option FileMap) (l f w s stays : Type 0) (before middle after : Option (List ℕ)) (n : ℕ) (fault : Fault) → StopsAt words files l w s fault →
+    WroteBefore words files before middle fault → UnlessSaved stays fault → Finishes f middle after words n fault → n ≡ 7 → FailsOutside words files w s stays before after
+end_outside words files l f w s stays before middle after n Usage stops wrote unsaved ends seven = absurd (told_not_7 f middle after words Usage n (λ e. omega (arith, e)) ends seven)
+end_outside words files l f w s stays before middle after n (Read input) stops wrote unsaved ends seven = absurd (told_not_7 f middle after words (Read input) n (λ e. omega (arith, e)) ends seven)
+end_outside words files l f w s stays before middle after n (TooLong input) stops wrote unsaved ends seven = absurd (told_not_7 f middle after words (TooLong input) n (λ e. omega (arith, e)) ends seven)
+end_outside words files l f w s stays before middle after n (NotBuilt input) stops wrote unsaved ends seven = absurd (told_not_7 f middle after words (NotBuilt input) n (λ e. omega (arith, e)) ends seven)
+end_outside words files l f w s stays before middle after n Write stops wrote unsaved ends seven =
+    let P : Option (List ℕ) → Type 0 = λ x. WritesPart words files before x in inl (stops.1, unsaved, subst P (sym ends.1) wrote)
+end_outside words files l f w s stays before middle after n Save stops wrote unsaved ends seven =
+    let P : Option (List ℕ) → Type 0 = λ x. WritesAll words files before x in inr (stops.1, subst P (sym ends.1) wrote)
+end_outside words files l f w s stays before middle after n Memory stops wrote unsaved ends seven = absurd (omega (arith, ends.0, seven))
+
+-- status 8
+pub end_runs_out : (words : List (List ℕ)) (files : Option FileMap) (f : Type 0) (before middle after : Option (List ℕ)) (n : ℕ) (fault : Fault) →
+    WroteBefore words files before middle fault → Finishes f middle after words n fault → n ≡ 8 → RunsOut words before after
+end_runs_out words files f before middle after n Usage wrote ends eight = told_runs_out words f before middle after n Usage (λ e. omega (arith, e)) wrote ends eight
+end_runs_out words files f before middle after n (Read input) wrote ends eight = told_runs_out words f before middle after n (Read input) (λ e. omega (arith, e)) wrote ends eight
+end_runs_out words files f before middle after n (TooLong input) wrote ends eight = told_runs_out words f before middle after n (TooLong input) (λ e. omega (arith, e)) wrote ends eight
+end_runs_out words files f before middle after n (NotBuilt input) wrote ends eight = told_runs_out words f before middle after n (NotBuilt input) (λ e. omega (arith, e)) wrote ends eight
+end_runs_out words files f before middle after n Write wrote ends eight = absurd (omega (arith, ends.0, eight))
+end_runs_out words files f before middle after n Save wrote ends eight = absurd (omega (arith, ends.0, eight))
+end_runs_out words files f before middle after n Memory wrote ends eight = (report_of wrote.0, inl (wrote.0, refl), (middle, wrote.1, ends.1))
+
+pub end_unsaved : (stays f : Type 0) (middle after : Option (List ℕ)) (words : List (List ℕ)) (n : ℕ) (fault : Fault) → UnlessSaved stays fault → Finishes f middle after words n fault → n ≢ 7 → stays
+end_unsaved stays f middle after words n Usage unsaved ends apart = unsaved
+end_unsaved stays f middle after words n (Read input) unsaved ends apart = unsaved
+end_unsaved stays f middle after words n (TooLong input) unsaved ends apart = unsaved
+end_unsaved stays f middle after words n (NotBuilt input) unsaved ends apart = unsaved
+end_unsaved stays f middle after words n Write unsaved ends apart = unsaved
+end_unsaved stays f middle after words n Save unsaved ends apart = absurd (apart ends.0)
+end_unsaved stays f middle after words n Memory unsaved ends apart = unsaved
+
+-- a count that rose in the later or in the earlier part of a call rose in the call
+pub Rose-later : (a b c : ℕ) → a ≤ b → Rose b c → Rose a c
+Rose-later a b c low rose = omega arith
+
+pub Rose-further : (a b c : ℕ) → b ≤ c → Rose a b → Rose a c
+Rose-further a b c high rose = omega arith
+
+-- a cause stays one where the count of failed writes rises later
+pub stops_wider : (words : List (List ℕ)) (files : Option FileMap) (l w v s : Type 0) → (w → v) → (fault : Fault) → StopsAt words files l w s fault → StopsAt words files l v s fault
+stops_wider words files l w v s wider Usage stops = stops
+stops_wider words files l w v s wider (Read input) stops = stops
+stops_wider words files l w v s wider (TooLong input) stops = stops
+stops_wider words files l w v s wider (NotBuilt input) stops = stops
+stops_wider words files l w v s wider Write stops = (stops.0, wider stops.1)
+stops_wider words files l w v s wider Save stops = stops
+stops_wider words files l w v s wider Memory stops = stops

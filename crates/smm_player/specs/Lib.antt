@@ -1,0 +1,10 @@
+pub mod Fault
+pub mod Files
+pub mod Finish
+pub mod Lines
+pub mod Play
+pub mod Replay
+pub mod Report
+pub mod Schedule
+pub mod Verdict
+pub mod Words

@@ -1,0 +1,88 @@
+-- What `play` promises at each exit status.
+use Rattle.std.specs.Prelude.{ℕ, ◌≡◌, ◌≢◌, ◌==◌, ◌⊎◌, Bool, true, false, ◌||◌, List, Option, Result, Ok, Err, IfSome, MatchResult}
+use Rattle.smm_base.specs.Sink.{appended, GainsPrefix}
+use Rattle.smm_base.specs.Store.{FileMap}
+use Rattle.rendezvous_core.specs.Platform.{the_platform}
+use Rattle.rendezvous_core.specs.Worlds.{replay_events, labels}
+use Rattle.rendezvous_core.specs.Machine.{IsRun, beginning}
+use Rattle.smm_player.specs.declared.input.Input.{Input}
+use Rattle.smm_player.specs.declared.input.Input.TheVariants.{Images}
+use Rattle.smm_player.specs.declared.fault.Fault.{Fault}
+use Rattle.smm_player.specs.declared.fault.Fault.TheVariants.{Usage, Read, TooLong, NotBuilt, Write, Save, Memory}
+use Rattle.smm_player.specs.Fault.{status_of, fault_line}
+use Rattle.smm_player.specs.Finish.{GainsBoth, Tells}
+use Rattle.smm_player.specs.Replay.{report_of}
+use Rattle.smm_player.specs.Verdict.{Finding, due, told_due, HasCause, IsDue}
+use Rattle.smm_player.specs.Words.{is_step_form, name_of, after_name}
+
+-- done, usage, a file that isn't read, a failed write or save, want of memory, a part that isn't built
+abbrev pub is_exit_status : ℕ → Bool
+is_exit_status n = (n == 0) || (n == 1) || (n == 6) || (n == 7) || (n == 8) || (n == 9)
+
+-- the name for the images after holds what the images' name held before, where the store tells its files
+abbrev pub SavesImages : List (List ℕ) → Option FileMap → Option FileMap → Type 0
+SavesImages words before after = IfSome before (λ held. IfSome after (λ holds. holds (after_name words) ≡ held (name_of words Images)))
+
+-- The command was done: its words, the schedule that is due, the report of the schedule's replay, whose labels are a run
+-- of the rendezvous machine, and the saved images.
+pub record IsPlayed (words : List (List ℕ)) (files files' : Option FileMap) (before after : Option (List ℕ)) : Type 0 where
+  pub form : is_step_form words ≡ true
+  pub schedule : List ℕ
+  pub is_due : IsDue (told_due words files) schedule
+  pub written : after ≡ appended before (report_of schedule)
+  pub is_run : IsRun the_platform (beginning the_platform) (labels (replay_events the_platform schedule))
+  pub saved : SavesImages words files files'
+
+-- The cause of each fault: words that aren't of the form; else what is due at the input files and which counts rose.
+abbrev pub StopsAt : List (List ℕ) → Option FileMap → Type 0 → Type 0 → Type 0 → Fault → Type 0
+StopsAt words files load_failed write_failed save_failed Usage = is_step_form words ≡ false
+StopsAt words files load_failed write_failed save_failed (Read input) = (is_step_form words ≡ true) × HasCause (told_due words files) load_failed (Read input)
+StopsAt words files load_failed write_failed save_failed (TooLong input) = (is_step_form words ≡ true) × HasCause (told_due words files) load_failed (TooLong input)
+StopsAt words files load_failed write_failed save_failed (NotBuilt input) = (is_step_form words ≡ true) × HasCause (told_due words files) load_failed (NotBuilt input)
+StopsAt words files load_failed write_failed save_failed Write = (is_step_form words ≡ true) × write_failed
+StopsAt words files load_failed write_failed save_failed Save = (is_step_form words ≡ true) × save_failed
+StopsAt words files load_failed write_failed save_failed Memory = Unit {0}
+
+-- a front part of the report of the schedule that is due, where the files are told
+abbrev pub WritesPart : List (List ℕ) → Option FileMap → Option (List ℕ) → Option (List ℕ) → Type 0
+WritesPart words files before after = (schedule : List ℕ) × IsDue (told_due words files) schedule × GainsPrefix before after (report_of schedule)
+
+-- the whole report of the schedule that is due, where the files are told
+abbrev pub WritesAll : List (List ℕ) → Option FileMap → Option (List ℕ) → Option (List ℕ) → Type 0
+WritesAll words files before after = (schedule : List ℕ) × IsDue (told_due words files) schedule × (after ≡ appended before (report_of schedule))
+
+-- what was written when a fault came, before its line
+abbrev pub WroteBefore : List (List ℕ) → Option FileMap → Option (List ℕ) → Option (List ℕ) → Fault → Type 0
+WroteBefore words files before after Usage = after ≡ before
+WroteBefore words files before after (Read input) = after ≡ before
+WroteBefore words files before after (TooLong input) = after ≡ before
+WroteBefore words files before after (NotBuilt input) = after ≡ before
+WroteBefore words files before after Write = WritesPart words files before after
+WroteBefore words files before after Save = WritesAll words files before after
+WroteBefore words files before after Memory = (schedule : List ℕ) × GainsPrefix before after (report_of schedule)
+
+-- a fault with this status has its cause, and its line was told
+pub record IsFaulted (words : List (List ℕ)) (files : Option FileMap) (load_failed write_failed save_failed : Type 0) (before after : Option (List ℕ)) (status : ℕ) : Type 0 where
+  pub fault : Fault
+  pub status_is : status_of fault ≡ status
+  pub cause : StopsAt words files load_failed write_failed save_failed fault
+  pub line : Tells write_failed before after (fault_line words fault)
+
+-- Status 7: the write failed, a front part of the report was written, and all files stay; or the save failed, and the
+-- whole report was written.
+abbrev pub FailsOutside : List (List ℕ) → Option FileMap → Type 0 → Type 0 → Type 0 → Option (List ℕ) → Option (List ℕ) → Type 0
+FailsOutside words files write_failed save_failed files_stay before after =
+    (write_failed × files_stay × WritesPart words files before after) ⊎ (save_failed × WritesAll words files before after)
+
+-- what may be written in part before the line for want of memory: a report, or the line of another status
+abbrev pub CanPrecede : List (List ℕ) → List ℕ → Type 0
+CanPrecede words piece = ((schedule : List ℕ) × (piece ≡ report_of schedule)) ⊎ ((fault : Fault) × (status_of fault ≢ 8) × (piece ≡ fault_line words fault))
+
+-- Status 8: a front part of a report or of another status's line, and then one of the line for want of memory.
+abbrev pub RunsOut : List (List ℕ) → Option (List ℕ) → Option (List ℕ) → Type 0
+RunsOut words before after = (piece : List ℕ) × CanPrecede words piece × GainsBoth before after piece (fault_line words Memory)
+
+-- the status that is due, or want of memory: a schedule ends with 0 or a fault of the outside, a fault with its status
+abbrev pub IsDueStatus : Finding → ℕ → Type 0
+IsDueStatus (Ok schedule) status = (status ≡ 0) ⊎ (status ≡ 7) ⊎ (status ≡ 8)
+IsDueStatus (Err fault) status = (status ≡ status_of fault) ⊎ (status ≡ 8)

@@ -1,0 +1,96 @@
+ghost use Rattle.std.specs.Prelude.{◌≡◌, ◌++◌, IfOk, map, string_bytes};
+ghost use Rattle.smm_player.specs.Fault.{status_of, fault_line};
+ghost use Rattle.smm_player.specs.Files.{limit_text};
+ghost use Rattle.smm_player.specs.Words.{texts};
+
+use crate::input::Input;
+use crate::words::input_name;
+use smm_base::NoMemory;
+use std::alloc::Global;
+use std::convert::From;
+
+/// Why a command did not come to its end.
+#[derive(Clone, Copy, Debug, PartialEq, Eq)]
+pub enum Fault {
+    /// The words are not of a command's form.
+    Usage,
+    /// The file was not loaded.
+    Read(Input),
+    /// The file has more bytes than its limit.
+    TooLong(Input),
+    /// The file asks for a part that is not built.
+    NotBuilt(Input),
+    /// The report was not written.
+    Write,
+    /// The images were not saved.
+    Save,
+    /// There was no memory.
+    Memory,
+}
+
+impl From<NoMemory> for Fault {
+    ghost use Rattle.smm_player.specs.declared.fault.Fault.TheVariants.{Memory};
+
+    ghost from_gives = { λ _ fault. fault ≡ Memory };
+
+    fn from(_: NoMemory) -> Self {
+        Fault::Memory
+    }
+}
+
+impl Fault {
+    /// The exit status.
+    pub(crate) fn status(self) -> u8
+        ensures { result ≡ status_of self }
+    {
+        match self {
+            Fault::Usage => 1,
+            Fault::Read(_) | Fault::TooLong(_) => 6,
+            Fault::NotBuilt(_) => 9,
+            Fault::Write | Fault::Save => 7,
+            Fault::Memory => 8,
+        }
+    }
+}
+
+// Three texts in a row.
+fn joined(alloc: Global, first: &str, name: &str, last: &str) -> Result<Vec<u8>, NoMemory>
+    ensures { IfOk result (λ line. line.items ≡ first.now ++ name.now ++ last.now) }
+{
+    let mut line = Vec::from_slice(alloc, first.as_bytes())?;
+    line.extend_from_slice(name.as_bytes())?;
+    line.extend_from_slice(last.as_bytes())?;
+    Ok(line)
+}
+
+// A blank, the limit of an input file, and a line end.
+fn limit_ending(input: Input) -> &'static str
+    ensures { result.now ≡ limit_text input }
+{
+    match input {
+        Input::Platform => " 1048576\n",
+        Input::Images => " 65548\n",
+        Input::Schedule => " 4194304\n",
+    }
+}
+
+// The line that tells a fault: nothing for one that none tells.
+pub(crate) fn line_of(alloc: Global, words: &Vec<String>, fault: Fault) -> Result<Vec<u8>, NoMemory>
+    ensures { IfOk result (λ line. line.items ≡ fault_line (texts words.now.items) fault) }
+{
+    match fault {
+        Fault::Usage => joined(alloc, "fault usage", "", "\n"),
+        Fault::Read(input) => joined(alloc, "fault read ", input_name(words, input), "\n"),
+        Fault::TooLong(input) => {
+            joined(
+                alloc,
+                "fault too-long ",
+                input_name(words, input),
+                limit_ending(input),
+            )
+        }
+        Fault::NotBuilt(input) => joined(alloc, "fault not-built ", input_name(words, input), "\n"),
+        Fault::Write | Fault::Save => Ok(Vec::new(alloc)),
+        Fault::Memory => joined(alloc, "fault memory", "", "\n"),
+    }
+}

@@ -1,0 +1,23 @@
+// The player: it replays a schedule on a platform, and writes the report and the images.
+#![tactic(auto)]
+
+mod command;
+mod fault;
+mod files;
+mod finish;
+mod input;
+mod lines;
+mod load;
+mod replay;
+mod report;
+mod schedule;
+mod words;
+
+pub use command::play;
+pub use fault::Fault;
+pub use input::Input;
+pub use lines::push_event;
+pub use report::write_report;
+
+#[cfg(test)]
+mod tests;

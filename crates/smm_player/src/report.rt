@@ -1,0 +1,267 @@
+ghost use Rattle.std.specs.Prelude.{◌≡◌, ◌++◌, ◌≤◌, [], IsErrOf, OnErr, OnOk};
+ghost use Rattle.smm_base.specs.Faults.{Rose};
+ghost use Rattle.smm_base.specs.Sink.{appended, GainsPrefix};
+ghost use Rattle.smm_player.specs.Lines.{event_line};
+ghost use Rattle.smm_player.specs.Report.{is_end, is_wave, is_served, session_count, unserved_count, event_lines, last_line, report_text, IsBuffered};
+
+use crate::lines::{LINE_END, Part, SPACE, push_event, push_field};
+use smm_base::{NoMemory, Sink, WriteError, write_all};
+use std::alloc::Global;
+use sync_words::{Event, Label};
+
+/// How many bytes of a report are handed to the sink at once, at most.
+const PIECE: usize = 65536;
+
+/// More bytes than any line has.
+const LINE: usize = 256;
+
+/// Writes the report of a run on so many processors: the line of each event in order, and a last
+/// line with `complete` or `unfinished` and the numbers of events, of ended sessions and of waves
+/// that were announced and not served. It goes out in pieces of at most 65,536 bytes.
+///
+/// # Errors
+///
+/// `Failed` where a write failed or took nothing: then the sink's count of faults rose. `NoMemory`
+/// for want of memory. On both the sink has gained some front part of the report, maybe none of it.
+pub fn write_report<K: Sink>(
+    alloc: Global,
+    processors: u16,
+    events: &[Event],
+    complete: bool,
+    out: &mut K,
+) -> Result<(), WriteError>
+    ensures appends { OnOk result (K.written out.new ≡ appended (K.written out.old) (report_text processors events.now complete)) }
+    ensures prefix { OnErr result (GainsPrefix (K.written out.old) (K.written out.new) (report_text processors events.now complete)) }
+    ensures failed { IsErrOf result WriteError.Failed → Rose (K.faults out.old) (K.faults out.new) }
+    ensures never_falls { K.faults out.old ≤ K.faults out.new }
+{
+    let mut buffer = Vec::with_capacity(alloc, PIECE)?;
+    write_lines(processors, events, &mut buffer, out)?;
+    push_last_line(events, complete, &mut buffer, out)?;
+    write_all(out, &buffer)
+}
+
+// Hands over the lines of the events, but for what is still in the buffer.
+fn write_lines<K: Sink>(
+    processors: u16,
+    events: &[Event],
+    buffer: &mut Vec<u8>,
+    out: &mut K,
+) -> Result<(), WriteError>
+    requires { buffer.old.items ≡ [] }
+    ensures buffered { OnOk result (IsBuffered (K.written out.old) (K.written out.new) buffer.new.items (event_lines processors events.now)) }
+    ensures prefix { OnErr result (GainsPrefix (K.written out.old) (K.written out.new) (event_lines processors events.now)) }
+    ensures failed { IsErrOf result WriteError.Failed → Rose (K.faults out.old) (K.faults out.new) }
+    ensures never_falls { K.faults out.old ≤ K.faults out.new }
+{
+    for event in events {
+        push_line(processors, event, buffer, out)?;
+    }
+    Ok(())
+}
+
+// Adds an event's line to the buffer, which is handed over before where it might not fit.
+fn push_line<K: Sink>(
+    processors: u16,
+    event: &Event,
+    buffer: &mut Vec<u8>,
+    out: &mut K,
+) -> Result<(), WriteError>
+    ensures buffered { OnOk result (IsBuffered (K.written out.old) (K.written out.new) buffer.new.items (buffer.old.items ++ event_line processors event.now)) }
+    ensures prefix { OnErr result (GainsPrefix (K.written out.old) (K.written out.new) buffer.old.items) }
+    ensures failed { IsErrOf result WriteError.Failed → Rose (K.faults out.old) (K.faults out.new) }
+    ensures never_falls { K.faults out.old ≤ K.faults out.new }
+{
+    make_room(buffer, out)?;
+    push_event(processors, event, buffer).map_err(|_| WriteError::NoMemory)
+}
+
+// Adds the last line to the buffer, which is handed over before where it might not fit.
+fn push_last_line<K: Sink>(
+    events: &[Event],
+    complete: bool,
+    buffer: &mut Vec<u8>,
+    out: &mut K,
+) -> Result<(), WriteError>
+    ensures buffered { OnOk result (IsBuffered (K.written out.old) (K.written out.new) buffer.new.items (buffer.old.items ++ last_line events.now complete)) }
+    ensures prefix { OnErr result (GainsPrefix (K.written out.old) (K.written out.new) buffer.old.items) }
+    ensures failed { IsErrOf result WriteError.Failed → Rose (K.faults out.old) (K.faults out.new) }
+    ensures never_falls { K.faults out.old ≤ K.faults out.new }
+{
+    make_room(buffer, out)?;
+    push_totals(events, complete, buffer).map_err(|_| WriteError::NoMemory)
+}
+
+// Hands the buffer over where a further line might not fit.
+fn make_room<K: Sink>(buffer: &mut Vec<u8>, out: &mut K) -> Result<(), WriteError>
+    ensures buffered { OnOk result (IsBuffered (K.written out.old) (K.written out.new) buffer.new.items buffer.old.items) }
+    ensures prefix { OnErr result (GainsPrefix (K.written out.old) (K.written out.new) buffer.old.items) }
+    ensures failed { IsErrOf result WriteError.Failed → Rose (K.faults out.old) (K.faults out.new) }
+    ensures never_falls { K.faults out.old ≤ K.faults out.new }
+{
+    if buffer.len() > PIECE - LINE {
+        write_all(out, buffer)?;
+        buffer.clear();
+    }
+    Ok(())
+}
+
+// Appends the last line.
+fn push_totals(events: &[Event], complete: bool, out: &mut Vec<u8>) -> Result<(), NoMemory>
+    ensures { OnOk result (out.new.items ≡ out.old.items ++ last_line events.now complete) }
+{
+    let word = if complete { "complete" } else { "unfinished" };
+    let totals = [
+        Part::Word("events"),
+        Part::Number(events.len() as u64),
+        Part::Word("sessions"),
+        Part::Number(count_sessions(events)),
+        Part::Word("unserved"),
+        Part::Number(count_unserved(events)),
+    ];
+    push_field(Part::Word(word), &totals, SPACE, LINE_END, out)
+}
+
+// How many sessions were ended.
+fn count_sessions(events: &[Event]) -> u64
+    ensures { result ≡ session_count events.now }
+{
+    let ended = events
+        .iter()
+        .filter(|event| ends_session(event.label))
+        .count();
+    ended as u64
+}
+
+// How many waves were announced and not served.
+fn count_unserved(events: &[Event]) -> u64
+    ensures { result ≡ unserved_count events.now }
+{
+    let announced = events
+        .iter()
+        .filter(|event| announces_wave(event.label))
+        .count();
+    let served = events
+        .iter()
+        .filter(|event| serves_wave(event.label))
+        .count();
+    announced.saturating_sub(served) as u64
+}
+
+fn ends_session(label: Label) -> bool
+    ensures { result ≡ is_end label }
+{
+    matches!(label, Label::End)
+}
+
+fn announces_wave(label: Label) -> bool
+    ensures { result ≡ is_wave label }
+{
+    matches!(label, Label::Wave(_))
+}
+
+fn serves_wave(label: Label) -> bool
+    ensures { result ≡ is_served label }
+{
+    matches!(label, Label::Served(wave) if wave != 0)
+}
+
+#[cfg(test)]
+mod tests {
+    use super::{PIECE, write_report};
+    use smm_base::{MemSink, Sink, WriteError};
+    use std::test::Fail;
+    use sync_words::{Access, Event, Label, Register, Status, WordId};
+
+    // An event of the chipset, the last actor of one processor.
+    fn labelled(word: WordId, label: Label) -> Event {
+        Event {
+            actor: 1,
+            word,
+            access: Access::Put(1),
+            found: 0,
+            label,
+        }
+    }
+
+    #[test]
+    fn a_report_goes_out_whole_in_small_pieces(rt: HostRuntime) -> Result<(), Fail> {
+        let alloc = rt.alloc();
+        let events = [
+            labelled(WordId::Source, Label::Wave(1)),
+            labelled(WordId::Source, Label::Wave(2)),
+            labelled(WordId::Source, Label::Served(1)),
+            labelled(WordId::Source, Label::Served(0)),
+            labelled(WordId::Counter, Label::End),
+        ];
+        let mut sink = MemSink::new(alloc, 10, Vec::new(alloc))?;
+        write_report(alloc, 1, &events, false, &mut sink)?;
+        let want = b"chip source put:1 0 wave:1\n\
+            chip source put:1 0 wave:2\n\
+            chip source put:1 0 served:1\n\
+            chip source put:1 0 served:0\n\
+            chip counter put:1 0 end\n\
+            unfinished events 5 sessions 1 unserved 1\n";
+        assert_eq!(rt; sink.bytes().as_slice(), want.as_slice());
+        Ok(())
+    }
+
+    #[test]
+    fn a_report_stops_at_a_write_that_fails(rt: HostRuntime) -> Result<(), Fail> {
+        let alloc = rt.alloc();
+        let events = [labelled(WordId::Except, Label::Excepted(1))];
+        let mut sink = MemSink::new(alloc, 10, vec![in alloc; 2]?)?;
+        let written = write_report(alloc, 1, &events, true, &mut sink);
+        assert_eq!(rt; written, Err(WriteError::Failed));
+        assert_eq!(rt; sink.bytes().as_slice(), b"chip excep".as_slice());
+        Ok(())
+    }
+
+    // A sink that takes all, and remembers how long the longest piece was and how many there were.
+    #[derive(Drop)]
+    struct Pieces {
+        longest: usize,
+        count: u64,
+    }
+
+    impl Sink for Pieces {
+        ghost use Rattle.std.specs.Prelude.{None};
+
+        ghost written = { λ _. None };
+
+        ghost faults = { λ _. 0 };
+
+        fn write(&mut self, piece: &[u8]) -> Result<usize, WriteError> {
+            self.longest = self.longest.max(piece.len());
+            self.count = self.count.saturating_add(1);
+            Ok(piece.len())
+        }
+    }
+
+    #[test]
+    fn a_long_report_goes_out_in_pieces_that_fit(rt: HostRuntime) -> Result<(), Fail> {
+        let alloc = rt.alloc();
+        let longest = Event {
+            actor: 65_534,
+            word: WordId::Present(65_533),
+            access: Access::Claim(16_777_214, 16_777_213),
+            found: 16_777_212,
+            label: Label::Read {
+                cpu: 65_532,
+                register: Register::ProcessorId,
+                width: 4_294_967_295,
+                value: 18_446_744_073_709_551_615,
+                status: Status::InterruptPending,
+            },
+        };
+        let events = vec![in alloc; longest; 1000]?;
+        let mut sink = Pieces {
+            longest: 0,
+            count: 0,
+        };
+        write_report(alloc, 65_535, &events, true, &mut sink)?;
+        assert!(rt; sink.longest <= PIECE);
+        assert_eq!(rt; sink.count, 2);
+        Ok(())
+    }
+}

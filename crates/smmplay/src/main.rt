@@ -1,0 +1,31 @@
+// The program: the words, the files of the working folder and the standard output, handed to the player.
+#![tactic(auto)]
+
+use smm_base::{DirStore, StdSink};
+use smm_player::play;
+use std::process::ExitCode;
+use std::rt::Env;
+use std::{env, io};
+
+/// The status where there is no memory for the words. Nothing is written then.
+const NO_MEMORY: u8 = 8;
+
+/// The words behind the program's name. A word that isn't UTF-8 is an error.
+fn words<R: Env + AllocGlobal>(rt: &R) -> io::Result<Vec<String>> {
+    let words = env::args(rt)?.skip(1).collect(rt.alloc())?;
+    Ok(words)
+}
+
+fn main(rt: HostRuntime) -> ExitCode {
+    let words = match words(&rt) {
+        Ok(words) => words,
+        Err(error) if error.kind() == io::ErrorKind::OutOfMemory => {
+            return ExitCode::from(NO_MEMORY);
+        }
+        // Words that aren't text are of no command's form, as no words are.
+        Err(_) => Vec::new(rt.alloc()),
+    };
+    let mut store = DirStore::new(&rt);
+    let mut out = StdSink::new(&rt);
+    ExitCode::from(play(rt.alloc(), &words, &mut store, &mut out))
+}
