@@ -5,7 +5,7 @@ ghost use Rattle.image_file.specs.declared.error.ImagesError.{ImagesError};
 ghost use Rattle.image_file.specs.declared.error.ImagesError.TheVariants.{NoMemory};
 ghost use Rattle.image_file.specs.Spelling.{IsSpelling};
 ghost use Rattle.image_file.specs.Refusals.{kind_number_of, kind_numbered, count_of, whole_length, refusal_of};
-ghost use Rattle.image_file.specs.Contents.{images_at};
+ghost use Rattle.image_file.specs.Contents.{images_at, images_in};
 
 use crate::error::ImagesError;
 use byteorder::{ByteOrder, LittleEndian};
@@ -23,6 +23,10 @@ pub fn read_images(alloc: Global, bytes: &[u8]) -> Result<Vec<Image>, ImagesErro
     // What is read is spelled so, and what is spelled so is read, unless memory runs out.
     ensures found { IfOk result (λ images. IsSpelling bytes.now images.items) }
     ensures only { (images : List ImageContents) → IsSpelling bytes.now images → MatchResult result (λ read. read.items ≡ images) (λ error. error ≡ NoMemory) }
+
+    // It has no refusal, and the images are those that its header tells of.
+    ensures unrefused { IfOk result (λ _. refusal_of bytes.now ≡ None) }
+    ensures contents { IfOk result (λ images. images.items ≡ images_in bytes.now) }
 
     // A file with a refusal gives that one, and no other file gives any but want of memory.
     ensures refused { (error : ImagesError) → refusal_of bytes.now ≡ Some error → result ≡ Err error }

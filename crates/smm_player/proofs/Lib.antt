@@ -1,4 +1,4 @@
-pub mod FileLemmas
+pub mod LoadLemmas
 pub mod PlayLemmas
 pub mod ReplayLemmas
 mod ReportLemmas

@@ -2,20 +2,19 @@
 use Rattle.std.proofs.Common.{◌≡◌, ℕ, Bool, List, Option, Result, Ok, Err, IfErr, ap, ◌∙◌}
 use Rattle.smm_base.specs.Sink.{appended}
 use Rattle.sync_words.specs.declared.event.Event.{Event}
-use Rattle.rendezvous_core.specs.Platform.{the_platform}
-use Rattle.rendezvous_core.specs.Worlds.{World, replay_events, replay_world, is_complete}
+use Rattle.rendezvous_core.specs.Worlds.{World, is_complete}
+use Rattle.smm_player.specs.Plan.{Plan, events_of, world_of, report_of}
 use Rattle.smm_player.specs.declared.fault.Fault.{Fault}
-use Rattle.smm_player.specs.declared.fault.Fault.TheVariants.{Usage, Read, TooLong, NotBuilt, Write, Save, Memory}
+use Rattle.smm_player.specs.declared.fault.Fault.TheVariants.{Usage, Read, TooLong, NotBuilt, Images, Write, Save, Memory}
 use Rattle.smm_player.specs.Report.{report_text}
-use Rattle.smm_player.specs.Replay.{report_of, EndsReplay, SaveFault}
+use Rattle.smm_player.specs.Replay.{EndsReplay, SaveFault}
 use Rattle.smm_base.specs.Sink.{GainsPrefix-whole}
 
--- the report by the world that the replay came to
-pub report_is : (schedule : List ℕ) (events : List Event) (world : World) (complete : Bool) → events ≡ replay_events the_platform schedule → world ≡ replay_world the_platform schedule →
-    complete ≡ is_complete world → report_text 1 events complete ≡ report_of schedule
+-- the report by the events and the world that the replay came to
+pub report_is : (p : Plan) (events : List Event) (world : World) → events ≡ events_of p → world ≡ world_of p → report_text 1 events (is_complete world) ≡ report_of p
 unfolding report_of
-report_is schedule events world complete events_are world_is complete_is =
-    ap (λ es. report_text 1 es complete) events_are ∙ ap (λ b. report_text 1 (replay_events the_platform schedule) b) (complete_is ∙ ap is_complete world_is)
+report_is p events world events_are world_is =
+    ap (λ es. report_text 1 es (is_complete world)) events_are ∙ ap (λ w. report_text 1 (events_of p) (is_complete w)) world_is
 
 -- a save ends a replay whose whole report was written
 pub save_ends : {T : Type 0} (r : Result T Fault) (write_failed save_failed files_stay : Type 0) (before after : Option (List ℕ)) (report : List ℕ) →
@@ -25,6 +24,7 @@ save_ends (Err Usage) write_failed save_failed files_stay before after report fa
 save_ends (Err (Read input)) write_failed save_failed files_stay before after report fault written = fault
 save_ends (Err (TooLong input)) write_failed save_failed files_stay before after report fault written = fault
 save_ends (Err (NotBuilt input)) write_failed save_failed files_stay before after report fault written = fault
+save_ends (Err (Images other)) write_failed save_failed files_stay before after report fault written = fault
 save_ends (Err Write) write_failed save_failed files_stay before after report fault written = absurd fault
 save_ends (Err Save) write_failed save_failed files_stay before after report fault written = (fault, written)
 save_ends (Err Memory) write_failed save_failed files_stay before after report fault written = GainsPrefix-whole before after report written

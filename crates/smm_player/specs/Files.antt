@@ -1,5 +1,5 @@
--- The input files that are built, each one fixed content, and the limits of the input files. They are the project's own.
-use Rattle.std.specs.Prelude.{ℕ, List, [], ◌∷◌, ◌++◌, replicate, codes}
+-- The platforms that are built, each one fixed text, and the limits of the input files. They are the project's own.
+use Rattle.std.specs.Prelude.{ℕ, List, [], ◌∷◌, ◌++◌, codes}
 use Rattle.std.specs.List.{flat_map}
 use Rattle.smm_player.specs.declared.input.Input.{Input}
 use Rattle.smm_player.specs.declared.input.Input.TheVariants.{Platform, Images, Schedule}
@@ -20,9 +20,9 @@ limit_text Schedule = codes " 4194304" ++ 10 ∷ []
 abbrev pub text_of_lines : List (List ℕ) → List ℕ
 text_of_lines lines = flat_map (λ line. line ++ 10 ∷ []) lines
 
--- the platform: one processor of the map `intel64`, one wave, and a walk over the root handlers
-unfoldable pub platform_text : List ℕ
-platform_text = text_of_lines (
+-- one processor of the map `intel64`, one wave, and a walk over the root handlers
+abbrev pub platform_lines : List (List ℕ)
+platform_lines =
     codes "version = 1"
     ∷ codes "processors = 1"
     ∷ codes "map = \"intel64\""
@@ -35,20 +35,23 @@ platform_text = text_of_lines (
     ∷ codes "[[wave]]"
     ∷ codes "status = [\"prompt\"]"
     ∷ codes "manage = [\"root\"]"
-    ∷ [])
+    ∷ []
 
--- so many bytes 0
-unfoldable pub zeros : ℕ → List ℕ
-zeros count = replicate count 0
+-- a root handler that writes 5627 to all 8 bytes of RAX and answers SUCCESS
+abbrev pub handler_lines : List (List ℕ)
+handler_lines =
+    codes ""
+    ∷ codes "[[handler]]"
+    ∷ codes "name = \"h0\""
+    ∷ codes "type = \"root\""
+    ∷ codes "answer = \"SUCCESS\""
+    ∷ codes "ops = [{op = \"write\", cpu = 0, reg = \"RAX\", width = 8, value = 5627}]"
+    ∷ []
 
--- the head of an image file: its mark, version 1, Intel 64, and one image
-abbrev pub images_head : List ℕ
-images_head = 0x53 ∷ 0x4D ∷ 0x49 ∷ 0x4D ∷ 1 ∷ 0 ∷ 1 ∷ 0 ∷ 1 ∷ 0 ∷ 0 ∷ 0 ∷ []
+-- the platform without a handler
+unfoldable pub platform_text : List ℕ
+platform_text = text_of_lines platform_lines
 
--- the revision 30004H and SMBASE 30000H of a save state, at its offsets 7EFCH and 7F00H
-abbrev pub revision_and_base : List ℕ
-revision_and_base = 0 ∷ 0 ∷ 3 ∷ 0 ∷ 4 ∷ 0 ∷ 3 ∷ 0 ∷ []
-
--- the 1,036 bytes of one zero image, whose bytes are 0 but the revision and SMBASE
-unfoldable pub images_bytes : List ℕ
-images_bytes = images_head ++ (zeros 760 ++ (revision_and_base ++ zeros 256))
+-- the platform with the handler
+unfoldable pub handler_platform_text : List ℕ
+handler_platform_text = text_of_lines (platform_lines ++ handler_lines)

@@ -3,7 +3,7 @@ use Rattle.std.specs.Prelude.{ℕ, ◌≡◌, ◌⊎◌, List, [], ◌∷◌, �
 use Rattle.smm_base.specs.Sink.{appended, GainsPrefix}
 use Rattle.smm_player.specs.declared.input.Input.{Input}
 use Rattle.smm_player.specs.declared.fault.Fault.{Fault}
-use Rattle.smm_player.specs.declared.fault.Fault.TheVariants.{Usage, Read, TooLong, NotBuilt, Write, Save, Memory}
+use Rattle.smm_player.specs.declared.fault.Fault.TheVariants.{Usage, Read, TooLong, NotBuilt, Images, Write, Save, Memory}
 use Rattle.smm_player.specs.Fault.{status_of, fault_line}
 
 -- a front part of one piece was written, and then a front part of another
@@ -26,6 +26,7 @@ Finishes write_failed before after words status Usage = TellsOrRunsOut write_fai
 Finishes write_failed before after words status (Read input) = TellsOrRunsOut write_failed before after words (Read input) status
 Finishes write_failed before after words status (TooLong input) = TellsOrRunsOut write_failed before after words (TooLong input) status
 Finishes write_failed before after words status (NotBuilt input) = TellsOrRunsOut write_failed before after words (NotBuilt input) status
+Finishes write_failed before after words status (Images fault) = TellsOrRunsOut write_failed before after words (Images fault) status
 Finishes write_failed before after words status Write = (status ≡ 7) × (after ≡ before)
 Finishes write_failed before after words status Save = (status ≡ 7) × (after ≡ before)
 Finishes write_failed before after words status Memory = (status ≡ 8) × GainsPrefix before after (fault_line words Memory)

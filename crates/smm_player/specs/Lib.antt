@@ -2,6 +2,7 @@ pub mod Fault
 pub mod Files
 pub mod Finish
 pub mod Lines
+pub mod Plan
 pub mod Play
 pub mod Replay
 pub mod Report

@@ -1,15 +1,8 @@
 -- What a command does once its inputs are read.
 use Rattle.std.specs.Prelude.{ℕ, ◌≡◌, List, Option}
 use Rattle.smm_base.specs.Sink.{appended, GainsPrefix}
-use Rattle.rendezvous_core.specs.Platform.{the_platform}
-use Rattle.rendezvous_core.specs.Worlds.{replay_events, replay_world, is_complete}
 use Rattle.smm_player.specs.declared.fault.Fault.{Fault}
-use Rattle.smm_player.specs.declared.fault.Fault.TheVariants.{Usage, Read, TooLong, NotBuilt, Write, Save, Memory}
-use Rattle.smm_player.specs.Report.{report_text}
-
--- the report of the replay of a schedule on the platform that is built
-unfoldable pub report_of : List ℕ → List ℕ
-report_of schedule = report_text 1 (replay_events the_platform schedule) (is_complete (replay_world the_platform schedule))
+use Rattle.smm_player.specs.declared.fault.Fault.TheVariants.{Usage, Read, TooLong, NotBuilt, Images, Write, Save, Memory}
 
 -- How a replay ends at a fault: at a failed write with a front part of the report, at a failed save with all of it, and
 -- for want of memory with a front part.
@@ -18,6 +11,7 @@ EndsReplay write_failed save_failed before after report Usage = ⊥
 EndsReplay write_failed save_failed before after report (Read input) = ⊥
 EndsReplay write_failed save_failed before after report (TooLong input) = ⊥
 EndsReplay write_failed save_failed before after report (NotBuilt input) = ⊥
+EndsReplay write_failed save_failed before after report (Images fault) = ⊥
 EndsReplay write_failed save_failed before after report Write = write_failed × GainsPrefix before after report
 EndsReplay write_failed save_failed before after report Save = save_failed × (after ≡ appended before report)
 EndsReplay write_failed save_failed before after report Memory = GainsPrefix before after report
@@ -28,6 +22,7 @@ UnlessSaved files_stay Usage = files_stay
 UnlessSaved files_stay (Read input) = files_stay
 UnlessSaved files_stay (TooLong input) = files_stay
 UnlessSaved files_stay (NotBuilt input) = files_stay
+UnlessSaved files_stay (Images fault) = files_stay
 UnlessSaved files_stay Write = files_stay
 UnlessSaved files_stay Save = Unit {0}
 UnlessSaved files_stay Memory = files_stay
@@ -38,6 +33,7 @@ SaveFault save_failed files_stay Usage = ⊥
 SaveFault save_failed files_stay (Read input) = ⊥
 SaveFault save_failed files_stay (TooLong input) = ⊥
 SaveFault save_failed files_stay (NotBuilt input) = ⊥
+SaveFault save_failed files_stay (Images fault) = ⊥
 SaveFault save_failed files_stay Write = ⊥
 SaveFault save_failed files_stay Save = save_failed
 SaveFault save_failed files_stay Memory = files_stay

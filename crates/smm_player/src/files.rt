@@ -1,5 +1,6 @@
-ghost use Rattle.std.specs.Prelude.{◌≡◌, ◌≢◌, ◌++◌, ◌↔◌, List, ℕ, All, IsTrue, MatchOption};
-ghost use Rattle.smm_player.specs.Files.{limit_of, platform_text, images_bytes, zeros};
+ghost use Rattle.std.specs.Prelude.{◌≡◌};
+ghost use Rattle.std.specs.Str.{bytes_eq};
+ghost use Rattle.smm_player.specs.Files.{limit_of, platform_text, handler_platform_text};
 
 use crate::input::Input;
 
@@ -17,11 +18,25 @@ status = [\"prompt\"]
 manage = [\"root\"]
 ";
 
-// The mark, version 1, Intel 64, and one image.
-const IMAGES_HEAD: [u8; 12] = [0x53, 0x4D, 0x49, 0x4D, 1, 0, 1, 0, 1, 0, 0, 0];
+const HANDLER_PLATFORM: &str = "version = 1
+processors = 1
+map = \"intel64\"
+policy = \"elected\"
+mode = \"traditional\"
+polls = [8, 8]
+visits = 3
+ops = 64
 
-// The revision 30004H and SMBASE 30000H of a save state.
-const REVISION_AND_BASE: [u8; 8] = [0, 0, 3, 0, 4, 0, 3, 0];
+[[wave]]
+status = [\"prompt\"]
+manage = [\"root\"]
+
+[[handler]]
+name = \"h0\"
+type = \"root\"
+answer = \"SUCCESS\"
+ops = [{op = \"write\", cpu = 0, reg = \"RAX\", width = 8, value = 5627}]
+";
 
 // How many bytes an input file has at most.
 pub(crate) fn limit(input: Input) -> u64
@@ -34,56 +49,16 @@ pub(crate) fn limit(input: Input) -> u64
     }
 }
 
-// Are these the bytes of the platform that is built?
+// Are these the bytes of the platform without a handler?
 pub(crate) fn is_platform(bytes: &[u8]) -> bool
-    ensures { IsTrue result ↔ (bytes.now ≡ platform_text) }
+    ensures { result ≡ bytes_eq bytes.now platform_text }
 {
     bytes == PLATFORM.as_bytes()
 }
 
-// Are all bytes 0?
-fn is_zero(bytes: &[u8]) -> bool
-    ensures { IsTrue result ↔ All (λ byte. byte ≡ 0) bytes.now }
+// Are these the bytes of the platform with a handler that writes 5627 to RAX?
+pub(crate) fn is_handler_platform(bytes: &[u8]) -> bool
+    ensures { result ≡ bytes_eq bytes.now handler_platform_text }
 {
-    bytes.iter().all(|byte| *byte == 0)
-}
-
-// What follows so many bytes 0.
-fn after_zeros(bytes: &[u8], count: usize) -> Option<&[u8]>
-    ensures { MatchOption result ((rest : List ℕ) → bytes.now ≢ zeros count ++ rest) (λ rest. bytes.now ≡ zeros count ++ rest.now) }
-{
-    if count > bytes.len() {
-        return None;
-    }
-    if is_zero(&bytes[..count]) {
-        Some(&bytes[count..])
-    } else {
-        None
-    }
-}
-
-// What follows a piece.
-fn after<'a>(bytes: &'a [u8], piece: &[u8]) -> Option<&'a [u8]>
-    ensures { MatchOption result ((rest : List ℕ) → bytes.now ≢ piece.now ++ rest) (λ rest. bytes.now ≡ piece.now ++ rest.now) }
-{
-    bytes.strip_prefix(piece)
-}
-
-// Are these the bytes of the image file that is built?
-pub(crate) fn is_images(bytes: &[u8]) -> bool
-    ensures { IsTrue result ↔ (bytes.now ≡ images_bytes) }
-{
-    let Some(rest) = after(bytes, &IMAGES_HEAD) else {
-        return false;
-    };
-    let Some(rest) = after_zeros(rest, 760) else {
-        return false;
-    };
-    let Some(rest) = after(rest, &REVISION_AND_BASE) else {
-        return false;
-    };
-    match after_zeros(rest, 256) {
-        Some(rest) => rest.is_empty(),
-        None => false,
-    }
+    bytes == HANDLER_PLATFORM.as_bytes()
 }

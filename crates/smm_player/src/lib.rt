@@ -5,6 +5,7 @@ mod command;
 mod fault;
 mod files;
 mod finish;
+mod images;
 mod input;
 mod lines;
 mod load;
@@ -15,6 +16,7 @@ mod words;
 
 pub use command::play;
 pub use fault::Fault;
+pub use images::ImagesFault;
 pub use input::Input;
 pub use lines::push_event;
 pub use report::write_report;

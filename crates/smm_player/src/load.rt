@@ -1,22 +1,27 @@
-ghost use Rattle.std.specs.Prelude.{◌≡◌, ◌≤◌, Option, All, IfErr, IfOk, IfSome, map, string_bytes};
+ghost use Rattle.std.specs.Prelude.{◌≡◌, ◌≤◌, Ok, All, IfErr, IfOk, map, string_bytes};
 ghost use Rattle.smm_base.specs.Faults.{Rose};
 ghost use Rattle.smm_player.specs.declared.input.Input.TheVariants.{Platform, Images, Schedule};
-ghost use Rattle.smm_player.specs.Files.{images_bytes};
-ghost use Rattle.smm_player.specs.Verdict.{loaded, platform_due, images_due, schedule_due, told_at, told_due, HasCause, IsDue};
+ghost use Rattle.smm_base.specs.declared.kinds.MapKind.TheVariants.{Intel64};
+ghost use Rattle.smm_player.specs.Plan.{plan};
+ghost use Rattle.smm_player.specs.Verdict.{loaded, platform_found, platform_due, images_found, ImagesCause, images_due, schedule_due, told_at, told_due, HasCause, IsDue};
 ghost use Rattle.smm_player.specs.Words.{texts, name_of};
 
 use crate::fault::Fault;
-use crate::files::{is_images, is_platform, limit};
+use crate::files::{is_handler_platform, is_platform, limit};
+use crate::images::{refusal, single_image};
 use crate::input::Input;
 use crate::schedule::read_schedule;
 use crate::words::input_name;
+use image_file::read_images;
+use save_state_map::Image;
 use smm_base::{LoadError, Store};
 use std::alloc::Global;
 
 /// What a replay works on.
 #[derive(Drop)]
 pub(crate) struct Inputs {
-    pub(crate) images: Vec<u8>,
+    pub(crate) value: Option<u64>,
+    pub(crate) image: Image,
     pub(crate) schedule: Vec<u16>,
 }
 
@@ -27,7 +32,6 @@ fn load_input<F: Store>(
     store: &mut F,
     input: Input,
 ) -> Result<Vec<u8>, Fault>
-    ensures held { IfOk result (λ bytes. IfSome (F.files store.old) (λ held. held (name_of (texts words.now.items) input) ≡ Option.Some bytes.items)) }
     ensures due { IfOk result (λ bytes. IsDue (told_at (loaded input) (name_of (texts words.now.items) input) (F.files store.old)) bytes.items) }
     ensures cause { IfErr result (HasCause (told_at (loaded input) (name_of (texts words.now.items) input) (F.files store.old)) (Rose (F.failed_loads store.old) (F.failed_loads store.new))) }
     ensures files_stay { F.files store.new ≡ F.files store.old }
@@ -43,45 +47,59 @@ fn load_input<F: Store>(
     }
 }
 
-// Loads the platform, and tests it.
+// The number that the platform's handler writes, where it has one.
+fn platform_value(bytes: &[u8]) -> Result<Option<u64>, Fault>
+    ensures { result ≡ platform_found bytes.now }
+{
+    if is_platform(bytes) {
+        return Ok(None);
+    }
+    if is_handler_platform(bytes) {
+        Ok(Some(5627))
+    } else {
+        Err(Fault::NotBuilt(Input::Platform))
+    }
+}
+
+// Loads the platform, and reads it.
 fn load_platform<F: Store>(
     alloc: Global,
     words: &Vec<String>,
     store: &mut F,
-) -> Result<Vec<u8>, Fault>
-    ensures due { IfOk result (λ bytes. IsDue (told_at platform_due (name_of (texts words.now.items) Platform) (F.files store.old)) bytes.items) }
+) -> Result<Option<u64>, Fault>
+    ensures due { IfOk result (λ value. IsDue (told_at platform_due (name_of (texts words.now.items) Platform) (F.files store.old)) value) }
     ensures cause { IfErr result (HasCause (told_at platform_due (name_of (texts words.now.items) Platform) (F.files store.old)) (Rose (F.failed_loads store.old) (F.failed_loads store.new))) }
     ensures files_stay { F.files store.new ≡ F.files store.old }
     ensures loads_never_fall { F.failed_loads store.old ≤ F.failed_loads store.new }
     ensures saves_never_fall { F.failed_saves store.old ≤ F.failed_saves store.new }
 {
     let bytes = load_input(alloc, words, store, Input::Platform)?;
-    if is_platform(&bytes) {
-        Ok(bytes)
-    } else {
-        Err(Fault::NotBuilt(Input::Platform))
+    platform_value(&bytes)
+}
+
+// The image of an image file.
+fn image_of(alloc: Global, bytes: &[u8]) -> Result<Image, Fault>
+    ensures found { IfOk result (λ image. images_found bytes.now ≡ Ok image) }
+    ensures kind { IfOk result (λ image. image.kind ≡ Intel64) }
+    ensures cause { IfErr result (ImagesCause bytes.now) }
+{
+    match read_images(alloc, bytes) {
+        Ok(images) => single_image(&images),
+        Err(error) => Err(refusal(error)),
     }
 }
 
-// Loads the images, and tests them.
-fn load_images<F: Store>(
-    alloc: Global,
-    words: &Vec<String>,
-    store: &mut F,
-) -> Result<Vec<u8>, Fault>
-    ensures held { IfOk result (λ bytes. IfSome (F.files store.old) (λ held. held (name_of (texts words.now.items) Images) ≡ Option.Some bytes.items)) }
-    ensures due { IfOk result (λ bytes. IsDue (told_at images_due (name_of (texts words.now.items) Images) (F.files store.old)) bytes.items) }
+// Loads the images, and reads them.
+fn load_images<F: Store>(alloc: Global, words: &Vec<String>, store: &mut F) -> Result<Image, Fault>
+    ensures kind { IfOk result (λ image. image.kind ≡ Intel64) }
+    ensures due { IfOk result (λ image. IsDue (told_at images_due (name_of (texts words.now.items) Images) (F.files store.old)) image) }
     ensures cause { IfErr result (HasCause (told_at images_due (name_of (texts words.now.items) Images) (F.files store.old)) (Rose (F.failed_loads store.old) (F.failed_loads store.new))) }
     ensures files_stay { F.files store.new ≡ F.files store.old }
     ensures loads_never_fall { F.failed_loads store.old ≤ F.failed_loads store.new }
     ensures saves_never_fall { F.failed_saves store.old ≤ F.failed_saves store.new }
 {
     let bytes = load_input(alloc, words, store, Input::Images)?;
-    if is_images(&bytes) {
-        Ok(bytes)
-    } else {
-        Err(Fault::NotBuilt(Input::Images))
-    }
+    image_of(alloc, &bytes)
 }
 
 // Loads the schedule, and reads it.
@@ -105,22 +123,26 @@ fn load_schedule<F: Store>(
     }
 }
 
-// Loads and tests the three input files, one after another.
+// Loads and reads the three input files, one after another.
 pub(crate) fn load_inputs<F: Store>(
     alloc: Global,
     words: &Vec<String>,
     store: &mut F,
 ) -> Result<Inputs, Fault>
     ensures known { IfOk result (λ inputs. All (λ actor. actor ≤ 1) inputs.schedule.items) }
-    ensures held { IfOk result (λ inputs. IfSome (F.files store.old) (λ held. held (name_of (texts words.now.items) Images) ≡ Option.Some inputs.images.items)) }
-    ensures due { IfOk result (λ inputs. IsDue (told_due (texts words.now.items) (F.files store.old)) inputs.schedule.items) }
+    ensures kind { IfOk result (λ inputs. inputs.image.kind ≡ Intel64) }
+    ensures due { IfOk result (λ inputs. IsDue (told_due (texts words.now.items) (F.files store.old)) (plan inputs.value inputs.image inputs.schedule.items)) }
     ensures cause { IfErr result (HasCause (told_due (texts words.now.items) (F.files store.old)) (Rose (F.failed_loads store.old) (F.failed_loads store.new))) }
     ensures files_stay { F.files store.new ≡ F.files store.old }
     ensures loads_never_fall { F.failed_loads store.old ≤ F.failed_loads store.new }
     ensures saves_never_fall { F.failed_saves store.old ≤ F.failed_saves store.new }
 {
-    let _platform = load_platform(alloc, words, store)?;
-    let images = load_images(alloc, words, store)?;
+    let value = load_platform(alloc, words, store)?;
+    let image = load_images(alloc, words, store)?;
     let schedule = load_schedule(alloc, words, store)?;
-    Ok(Inputs { images, schedule })
+    Ok(Inputs {
+        value,
+        image,
+        schedule,
+    })
 }

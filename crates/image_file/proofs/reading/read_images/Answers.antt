@@ -24,3 +24,11 @@ pub returns-clause-only : goal.returns-clause-only
 returns-clause-only c = λ images spelled.
     let there : images_at c.in_ok-kind.kind c.in_ok-kind.count (take (length c.args.bytes.now - 12) (drop 12 c.args.bytes.now)) ≡ images_at (kind_numbered (kind_number_of c.args.bytes.now)) (count_of c.args.bytes.now) (drop 12 c.args.bytes.now) = rw (c.in_ok-kind.ensures.kind, c.in_ok-kind.ensures.count) (ap (images_at (kind_numbered (kind_number_of c.args.bytes.now)) (count_of c.args.bytes.now)) (take_rest c.args.bytes.now 12)) in
     MatchResult-from_both c.images_of.result _ _ (IfOk-weaker c.images_of.result _ _ (λ read e. e ∙ there ∙ same_images c.args.bytes.now images spelled) c.images_of.ensures.images) c.images_of.ensures.memory
+
+pub returns-clause-contents : goal.returns-clause-contents
+returns-clause-contents c =
+    let there : images_at c.in_ok-kind.kind c.in_ok-kind.count (take (length c.args.bytes.now - 12) (drop 12 c.args.bytes.now)) ≡ images_at (kind_numbered (kind_number_of c.args.bytes.now)) (count_of c.args.bytes.now) (drop 12 c.args.bytes.now) = rw (c.in_ok-kind.ensures.kind, c.in_ok-kind.ensures.count) (ap (images_at (kind_numbered (kind_number_of c.args.bytes.now)) (count_of c.args.bytes.now)) (take_rest c.args.bytes.now 12)) in
+    IfOk-weaker c.images_of.result _ _ (λ images e. e ∙ there) c.images_of.ensures.images
+
+pub returns-clause-unrefused : goal.returns-clause-unrefused
+returns-clause-unrefused c = IfOk-weaker c.images_of.result _ _ (λ images e. c.in_ok-kind.ensures.exact) c.images_of.ensures.images

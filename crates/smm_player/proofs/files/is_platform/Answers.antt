@@ -1,5 +1,5 @@
-use Rattle.std.proofs.Common.{◌≡◌, ◌∙◌, sym}
-use Rattle.std.proofs.lemmas.Slice.Eq.{bytes_eq-Decides}
+use Rattle.std.proofs.Common.{◌≡◌, ◌∙◌, ap}
+use Rattle.std.specs.Str.{bytes_eq}
 use Rattle.smm_player.specs.Files.{platform_text}
 use Rattle.smm_player.proofs.files.is_platform.Goals as goal
 
@@ -7,6 +7,5 @@ use Rattle.smm_player.proofs.files.is_platform.Goals as goal
 pub returns : goal.returns
 unfolding platform_text
 returns c =
-    let tests = bytes_eq-Decides c.args.bytes.now c.as_bytes.result.now in
     let is : c.as_bytes.result.now ≡ platform_text = c.as_bytes.ensures.value in
-    (λ t. tests.0 (sym c.eq.ensures ∙ t) ∙ is, λ e. c.eq.ensures ∙ tests.1 (e ∙ sym is))
+    c.eq.ensures ∙ ap (bytes_eq c.args.bytes.now) is

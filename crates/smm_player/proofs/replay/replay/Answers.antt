@@ -1,5 +1,13 @@
-use Rattle.smm_player.proofs.ReplayLemmas.{save_ends}
+use Rattle.smm_player.specs.Plan.{plan}
+use Rattle.smm_player.proofs.ReplayLemmas.{report_is}
 use Rattle.smm_player.proofs.replay.replay.Goals as goal
 
+pub returns-in-Ok-clause-written : goal.returns-in-Ok-clause-written
+returns-in-Ok-clause-written g c =
+    let is = report_is (plan c.args.inputs.now.value c.args.inputs.now.image c.deref.result.now) c.in-Ok.world.events c.in-Ok.world.world c.in-Ok.ensures.events c.in-Ok.ensures.world in
+    rw (← c.deref.ensures.value, ← is) c.conclude.ensures.written
+
 pub returns-in-Ok-clause-ends : goal.returns-in-Ok-clause-ends
-returns-in-Ok-clause-ends g c = save_ends c.save_images.result _ _ _ _ _ _ c.save_images.ensures.fault (rw (← c.deref.ensures.value) c.in-Ok.ensures.appends)
+returns-in-Ok-clause-ends g c =
+    let is = report_is (plan c.args.inputs.now.value c.args.inputs.now.image c.deref.result.now) c.in-Ok.world.events c.in-Ok.world.world c.in-Ok.ensures.events c.in-Ok.ensures.world in
+    rw (← c.deref.ensures.value, ← is) c.conclude.ensures.ends
