@@ -1,2 +1,3 @@
 pub mod LowBytes
 pub mod Numbers
+pub mod RoundTrip

@@ -4,7 +4,7 @@ use Rattle.std.specs.Prelude.{◌==◌, ◌||◌, IsTrue, option_map}
 use Rattle.std.specs.Bool.{OnTrue}
 use Rattle.std.specs.Int.{byte_at, bytes_low_first}
 use Rattle.std.proofs.Math.Nat.{div-div-eq-div-mul, pow-succ'}
-use Rattle.std.proofs.lemmas.List.{length-append, length-take-le, length-drop, drop-append-le, drop-drop, take-append-drop, get_or-drop, get_or-append_right, get_or_append_left}
+use Rattle.std.proofs.lemmas.List.{length-append, length-take-le, length-drop, drop-append-le, drop-drop, take-append-drop, get_or-drop, get_or-take, get_or_past, get_or-append_right, get_or_append_left}
 use Rattle.std.proofs.lemmas.Bool.{cases_lt}
 use Rattle.std.proofs.lemmas.Bool.Decides.{nat_tests}
 use Rattle.byteorder.specs.Endian.{little_from, little_number, little_bytes}
@@ -32,7 +32,7 @@ bytes_shift : (n i y : ℕ) → bytes_low_first (suc i) n y ≡ bytes_low_first 
 bytes_shift zero i y = refl
 bytes_shift (suc n) i y = rw (byte_shift i y, bytes_shift n (suc i) y) refl
 
-bytes_of_number : (n : ℕ) (xs : List ℕ) → n ≤ length xs → IsBytes xs → bytes_low_first 0 n (little_from 0 n xs) ≡ take n xs
+pub bytes_of_number : (n : ℕ) (xs : List ℕ) → n ≤ length xs → IsBytes xs → bytes_low_first 0 n (little_from 0 n xs) ≡ take n xs
 bytes_of_number zero xs long each = refl
 bytes_of_number (suc n) [] long each = absurd (omega arith)
 bytes_of_number (suc n) (x ∷ xs) long each =
@@ -45,7 +45,7 @@ bytes_of_number (suc n) (x ∷ xs) long each =
     ∙ ap (λ (b : ℕ). b ∷ bytes_low_first 1 n (x + 256 * rest)) first
     ∙ ap (λ (l : List ℕ). x ∷ l) (bytes_shift n 0 (x + 256 * rest) ∙ ap (λ (y : ℕ). bytes_low_first 0 n y) others ∙ bytes_of_number n xs (omega arith) (λ i. each (suc i)))
 
-fewer_bytes : (k n i y : ℕ) → k ≤ n → take k (bytes_low_first i n y) ≡ bytes_low_first i k y
+pub fewer_bytes : (k n i y : ℕ) → k ≤ n → take k (bytes_low_first i n y) ≡ bytes_low_first i k y
 fewer_bytes zero n i y le = refl
 fewer_bytes (suc k) zero i y le = absurd (omega arith)
 fewer_bytes (suc k) (suc n) i y le = ap (λ (l : List ℕ). byte_at i y ∷ l) (fewer_bytes k n (suc i) y (omega arith))
@@ -66,7 +66,7 @@ front_stays w n o m le within =
     ∙ sym (drop-append-le w (take n rest) (drop n rest) (omega arith))
     ∙ ap (λ (l : List ℕ). drop w l) (take-append-drop n rest) ∙ drop-drop w o m
 
-append_bytes : (xs ys : List ℕ) → IsBytes xs → IsBytes ys → IsBytes (xs ++ ys)
+pub append_bytes : (xs ys : List ℕ) → IsBytes xs → IsBytes ys → IsBytes (xs ++ ys)
 append_bytes xs ys left right i =
     elim (cases_lt i (length xs)) [
       | inl lt ↦ rw (get_or_append_left xs ys 0 i lt) (left i)
@@ -148,3 +148,11 @@ low_written true m after field p new number image each small fits there has acce
 -- a field has at most eight bytes
 pub width_small : (n : ℕ) → IsTrue (n == 2 || n == 4 || n == 8) → n ≤ 8
 width_small n valid = grind (arith, nat_tests)
+
+-- the front of bytes is bytes
+pub take_is_bytes : (n : ℕ) (xs : List ℕ) → n ≤ length xs → IsBytes xs → IsBytes (take n xs)
+take_is_bytes n xs long each i =
+    elim (cases_lt i n) [
+      | inl lt ↦ rw (get_or-take n xs i 0 lt) (each i)
+      | inr le ↦ rw (get_or_past (take n xs) i 0 (omega (arith, length-take-le n xs long))) (omega arith)
+    ]
