@@ -1,5 +1,5 @@
 -- What is found in an image file, and what is due for it.
-use Rattle.std.proofs.Common.{◌≡◌, ◌≢◌, ℕ, ◌+◌, ◌==◌, Bool, true, false, List, [], ◌∷◌, length, Option, None, Some, Result, Ok, Err, IfOk, IfErr, if◌then◌else◌, refl, ap, sym, subst, ◌∙◌}
+use Rattle.std.proofs.Common.{◌≡◌, ◌≢◌, ℕ, ◌+◌, ◌==◌, Bool, true, false, List, [], ◌∷◌, length, Option, None, Some, Result, Ok, Err, IfOk, IfErr, if◌then◌else◌, refl, ap, sym, ◌∙◌}
 use Rattle.smm_base.specs.Store.{FileMap}
 use Rattle.smm_base.specs.declared.kinds.MapKind.{MapKind}
 use Rattle.smm_base.specs.declared.kinds.MapKind.TheVariants.{Ia32, Intel64}
@@ -13,7 +13,7 @@ use Rattle.smm_player.specs.declared.images.ImagesFault.TheVariants.{CountDiffer
 use Rattle.smm_player.specs.declared.fault.Fault.{Fault}
 use Rattle.smm_player.specs.declared.fault.Fault.TheVariants.{Usage, Read, TooLong, NotBuilt, Images, Write, Save, Memory}
 use Rattle.smm_player.specs.Fault.{refused}
-use Rattle.smm_player.specs.Verdict.{Finding, then_on, loaded, judged, single, of_kind, only_one, images_found, ImagesCause, images_due, told_at, HasCause, IsDue}
+use Rattle.smm_player.specs.Verdict.{Finding, then_on, loaded, judged, single, of_kind, images_found, ImagesCause, images_due, told_at, HasCause, IsDue}
 
 -- images of a file without a refusal are found by their kind and count
 pub found_single : (bytes : List ℕ) (images : List ImageContents) → refusal_of bytes ≡ None → images ≡ images_in bytes → images_found bytes ≡ single images

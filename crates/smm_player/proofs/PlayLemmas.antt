@@ -1,10 +1,9 @@
 -- What a command's end at a fault comes to, fault by fault.
-use Rattle.std.proofs.Common.{◌≡◌, ◌≢◌, ℕ, ◌+◌, ◌-◌, ◌^◌, ◌≤◌, min, ◌⊎◌, Bool, true, false, List, [], ◌∷◌, Option, None, Some, Result, Ok, Err, IfSome, IfErr, OnOk, IsOk, refl, ap, sym, subst, ◌∙◌, arith, inl, inr}
+use Rattle.std.proofs.Common.{◌≡◌, ◌≢◌, ℕ, ◌≤◌, ◌⊎◌, Bool, true, false, List, [], ◌∷◌, Option, None, Some, Result, Ok, Err, IfSome, IfErr, OnOk, IsOk, refl, ap, sym, subst, ◌∙◌, arith, inl, inr}
 use Rattle.smm_base.specs.Faults.{Rose}
 use Rattle.smm_base.specs.Sink.{appended, GainsPrefix, GainsPrefix-none}
 use Rattle.smm_base.specs.Store.{FileMap}
 use Rattle.smm_base.specs.declared.kinds.MapKind.TheVariants.{Intel64}
-use Rattle.smm_player.specs.declared.input.Input.{Input}
 use Rattle.smm_player.specs.declared.fault.Fault.{Fault}
 use Rattle.smm_player.specs.declared.fault.Fault.TheVariants.{Usage, Read, TooLong, NotBuilt, Images, Write, Save, Memory}
 use Rattle.smm_player.specs.Fault.{status_of, fault_line}
@@ -17,7 +16,7 @@ use Rattle.rendezvous_core.specs.Worlds.{last_image}
 use Rattle.rendezvous_core.specs.Machine.{IsRun, beginning, machine_after, member, resumed_image}
 use Rattle.smm_player.specs.Verdict.{Finding, due, told_due, HasCause, IsDue}
 use Rattle.smm_player.specs.Words.{is_step_form}
-use Rattle.smm_player.specs.Play.{is_exit_status, IsPlayed, Performs, StopsAt, WritesPart, WritesAll, WroteBefore, IsFaulted, FailsOutside, CanPrecede, RunsOut, IsDueStatus}
+use Rattle.smm_player.specs.Play.{is_exit_status, IsPlayed, Performs, StopsAt, WritesPart, WritesAll, WroteBefore, IsFaulted, FailsOutside, RunsOut, IsDueStatus}
 
 told_status : (write_failed : Type 0) (before after : Option (List ℕ)) (words : List (List ℕ)) (fault : Fault) (n : ℕ) → TellsOrRunsOut write_failed before after words fault n → (n ≡ status_of fault) ⊎ (n ≡ 8)
 told_status write_failed before after words fault n ends = elim ends [ inl x ↦ inl x.0 | inr x ↦ inr x.0 ]
@@ -272,17 +271,17 @@ inputs_stop words files l w s Save form cause = absurd cause
 inputs_stop words files l w s Memory form cause = tt
 
 -- the cause of a fault of the replay
-pub replay_stops : {T : Type 0} (r : Result T Fault) (words : List (List ℕ)) (files : Option FileMap) (l w s : Type 0) (before after : Option (List ℕ)) (report : List ℕ) → is_step_form words ≡ true →
-    IfErr r (EndsReplay w s before after report) → IfErr r (StopsAt words files l w s)
-replay_stops (Ok x) words files l w s before after report form ends = tt
-replay_stops (Err Usage) words files l w s before after report form ends = absurd ends
-replay_stops (Err (Read input)) words files l w s before after report form ends = absurd ends
-replay_stops (Err (TooLong input)) words files l w s before after report form ends = absurd ends
-replay_stops (Err (NotBuilt input)) words files l w s before after report form ends = absurd ends
-replay_stops (Err (Images images)) words files l w s before after report form ends = absurd ends
-replay_stops (Err Write) words files l w s before after report form ends = (form, ends.0)
-replay_stops (Err Save) words files l w s before after report form ends = (form, ends.0)
-replay_stops (Err Memory) words files l w s before after report form ends = tt
+pub replay_stops : {T : Type 0} (r : Result T Fault) (words : List (List ℕ)) (files : Option FileMap) (l w s v : Type 0) → (s → v) → (before after : Option (List ℕ)) (report : List ℕ) → is_step_form words ≡ true →
+    IfErr r (EndsReplay w s before after report) → IfErr r (StopsAt words files l w v)
+replay_stops (Ok x) words files l w s v wider before after report form ends = tt
+replay_stops (Err Usage) words files l w s v wider before after report form ends = absurd ends
+replay_stops (Err (Read input)) words files l w s v wider before after report form ends = absurd ends
+replay_stops (Err (TooLong input)) words files l w s v wider before after report form ends = absurd ends
+replay_stops (Err (NotBuilt input)) words files l w s v wider before after report form ends = absurd ends
+replay_stops (Err (Images images)) words files l w s v wider before after report form ends = absurd ends
+replay_stops (Err Write) words files l w s v wider before after report form ends = (form, ends.0)
+replay_stops (Err Save) words files l w s v wider before after report form ends = (form, wider ends.0)
+replay_stops (Err Memory) words files l w s v wider before after report form ends = tt
 
 -- what was written when a fault of the replay came
 pub replay_wrote : {T : Type 0} (r : Result T Fault) (words : List (List ℕ)) (files : Option FileMap) (w s : Type 0) (before after : Option (List ℕ)) (p : Plan) → IsDue (told_due words files) p →

@@ -1,10 +1,10 @@
 -- Texts of schedules.
-use Rattle.std.proofs.Common.{◌≡◌, ℕ, suc, ◌+◌, Bor, map, get_or, drop, add-one, ◌<◌, ◌≤◌, List, [], ◌∷◌, ◌++◌, length, Option, None, Some, refl, ap, sym, ◌∙◌, arith, append_assoc, append-nil, count_by, if◌then◌else◌, nat_lt}
+use Rattle.std.proofs.Common.{◌≡◌, ℕ, ◌+◌, Bor, map, get_or, drop, add-one, ◌<◌, ◌≤◌, List, [], ◌∷◌, ◌++◌, length, Option, None, Some, refl, ap, sym, ◌∙◌, arith, append_assoc, append-nil, count_by, if◌then◌else◌}
 use Rattle.std.proofs.Math.Seq.{drop-cons}
 use Rattle.std.proofs.lemmas.Bool.{le-ltb, lt-ltb}
 use Rattle.std.specs.Option.{option_map, option_and_then}
 use Rattle.std.specs.List.{slice_split}
-use Rattle.smm_player.specs.Schedule.{schedule_of, schedule_in, all_actors, item_actors, is_space}
+use Rattle.smm_player.specs.Schedule.{schedule_of, all_actors, item_actors, is_space}
 
 -- an empty text has no items
 pub schedule_of_empty : (text : List ℕ) → length text ≡ 0 → schedule_of text ≡ Some []

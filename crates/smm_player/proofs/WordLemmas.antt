@@ -1,5 +1,5 @@
 -- A test of some word, by the words' bytes.
-use Rattle.std.proofs.Common.{◌≡◌, ℕ, ◌==◌, Bool, true, false, not, ◌||◌, ◌&&◌, length, List, [], ◌∷◌, map, string_bytes, String, refl, ap, sym, ◌∙◌}
+use Rattle.std.proofs.Common.{◌≡◌, ◌==◌, Bool, true, not, ◌||◌, ◌&&◌, length, List, [], ◌∷◌, map, string_bytes, String, refl, ap, sym, ◌∙◌}
 use Rattle.std.proofs.lemmas.List.{length-map}
 use Rattle.std.specs.List.{list_any}
 use Rattle.smm_player.specs.Words.{begins_with_dash, texts, word_at, is_step_word, is_step_form}

@@ -1,6 +1,5 @@
 -- The exit status of a fault, and the line that tells it. Both are the project's own.
 use Rattle.std.specs.Prelude.{ℕ, List, [], ◌∷◌, ◌++◌, codes, decimal}
-use Rattle.smm_player.specs.declared.input.Input.{Input}
 use Rattle.image_file.specs.declared.error.ImagesError.{ImagesError}
 use Rattle.image_file.specs.declared.error.ImagesError.TheVariants as error
 use Rattle.smm_player.specs.declared.images.ImagesFault.{ImagesFault}

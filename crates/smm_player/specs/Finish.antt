@@ -1,7 +1,6 @@
 -- How a command ends at a fault.
-use Rattle.std.specs.Prelude.{ℕ, ◌≡◌, ◌⊎◌, List, [], ◌∷◌, ◌++◌, Option, codes}
+use Rattle.std.specs.Prelude.{ℕ, ◌≡◌, ◌⊎◌, List, Option}
 use Rattle.smm_base.specs.Sink.{appended, GainsPrefix}
-use Rattle.smm_player.specs.declared.input.Input.{Input}
 use Rattle.smm_player.specs.declared.fault.Fault.{Fault}
 use Rattle.smm_player.specs.declared.fault.Fault.TheVariants.{Usage, Read, TooLong, NotBuilt, Images, Write, Save, Memory}
 use Rattle.smm_player.specs.Fault.{status_of, fault_line}

@@ -1,5 +1,5 @@
 -- What `play` promises at each exit status.
-use Rattle.std.specs.Prelude.{ℕ, ◌≡◌, ◌≢◌, ◌==◌, ◌⊎◌, Bool, true, false, ◌||◌, List, [], ◌∷◌, Option, Some, Result, Ok, Err}
+use Rattle.std.specs.Prelude.{ℕ, ◌≡◌, ◌≢◌, ◌==◌, ◌⊎◌, Bool, true, false, ◌||◌, List, [], ◌∷◌, Option, Some, Ok, Err}
 use Rattle.smm_base.specs.Sink.{appended, GainsPrefix}
 use Rattle.smm_base.specs.Store.{FileMap}
 use Rattle.rendezvous_core.specs.Worlds.{last_image}

@@ -1,5 +1,5 @@
 -- What is due for the held files: what the replay works on, or the first fault in the order of work.
-use Rattle.std.specs.Prelude.{ℕ, ◌≡◌, ◌⊎◌, ◌+◌, ◌==◌, List, [], ◌∷◌, Bool, length, nat_lt, Option, None, Some, Result, Ok, Err, MatchOption, IfSome, ok_or, if◌then◌else◌}
+use Rattle.std.specs.Prelude.{ℕ, ◌≡◌, ◌⊎◌, ◌+◌, ◌==◌, List, [], ◌∷◌, length, nat_lt, Option, None, Some, Result, Ok, Err, MatchOption, IfSome, ok_or, if◌then◌else◌}
 use Rattle.std.specs.Option.{option_map}
 use Rattle.std.specs.Str.{bytes_eq}
 use Rattle.smm_base.specs.Store.{FileMap}

@@ -44,8 +44,7 @@ fn perform<F: Store, K: Sink>(
 
 /// Does the command `step PLATFORM IMAGES SCHEDULE AFTER`: it replays the schedule on the platform,
 /// writes the report to the sink, and saves the image that the processor last resumed from under the
-/// name AFTER. The answer is the exit
-/// status.
+/// name AFTER. The answer is the exit status.
 ///
 /// | status | line | when |
 /// |---|---|---|

@@ -179,7 +179,7 @@ fn each_fault_has_its_line(rt: HostRuntime) -> Result<(), Fail> {
         ("step P X S A", 6, "fault read X\n"),
         ("step P I X A", 6, "fault read X\n"),
         ("step S I S A", 9, "fault not-built S\n"),
-        ("step P S S A", 3, "fault images short 16\n"),
+        ("step P S S A", 3, "fault images short 7\n"),
         ("step P I P A", 9, "fault not-built P\n"),
     ];
     for (line, want, text) in rows {
@@ -252,8 +252,10 @@ fn images_for_another_platform_are_refused(rt: HostRuntime) -> Result<(), Fail> 
         (0, 2, 1036, "fault images kind-differs\n"),
         (1, 2, 2060, "fault images count-differs 1 2\n"),
     ] {
-        let mut bytes =
-            Vec::from_slice(alloc, &[0x53, 0x4D, 0x49, 0x4D, 1, 0, kind, 0, count, 0, 0, 0])?;
+        let mut bytes = Vec::from_slice(
+            alloc,
+            &[0x53, 0x4D, 0x49, 0x4D, 1, 0, kind, 0, count, 0, 0, 0],
+        )?;
         bytes.resize(size, 0)?;
         let (status, told) = with_images(rt, &bytes)?;
         assert_eq!(rt; status, 3, "{line}");

@@ -1,9 +1,10 @@
-use Rattle.std.proofs.Common.{◌≡◌, ◌∙◌, sym, true, subst, ap, List, ℕ, Option}
+use Rattle.std.proofs.Common.{◌≡◌, ◌∙◌, true, subst, Option}
 use Rattle.smm_base.specs.Faults.{Rose}
 use Rattle.smm_base.specs.Store.{FileMap, ChangesOnly}
 use Rattle.smm_player.specs.Plan.{plan}
+use Rattle.smm_player.specs.Verdict.{told_due}
 use Rattle.smm_player.specs.Words.{texts, is_step_form, after_name}
-use Rattle.smm_player.proofs.PlayLemmas.{inputs_wrote, inputs_stop, replay_stops, replay_wrote, replay_done, on_ok_anyway, unsaved_from}
+use Rattle.smm_player.proofs.PlayLemmas.{inputs_wrote, replay_stops, replay_wrote, replay_done, on_ok_anyway, unsaved_from, Rose-later}
 use Rattle.smm_player.proofs.command.perform.Goals as goal
 
 pub returns-in-Ok-clause-form : goal.returns-in-Ok-clause-form
@@ -14,18 +15,17 @@ returns-in-Ok-clause-form g c =
 pub returns-in-Ok-clause-done : goal.returns-in-Ok-clause-done
 returns-in-Ok-clause-done g c =
     replay_done c.replay.result (texts c.args.words.now.items) (g.F.Store.files c.args.store.now) (g.F.Store.files c.replay.new.store) _ _
-      (plan c.in-Ok.inputs.value c.in-Ok.inputs.image c.in-Ok.inputs.schedule.items) c.in-Ok.ensures.due c.replay.ensures.written c.replay.ensures.saved
+    (plan c.in-Ok.inputs.value c.in-Ok.inputs.image c.in-Ok.inputs.schedule.items) c.in-Ok.ensures.due c.replay.ensures.written c.replay.ensures.saved
 
 pub returns-in-Ok-clause-cause : goal.returns-in-Ok-clause-cause
 returns-in-Ok-clause-cause g c =
     let form : is_step_form (texts c.args.words.now.items) ≡ true = cc in
-    let saves : g.F.Store.failed_saves c.load_inputs.new.store ≡ g.F.Store.failed_saves c.args.store.now = ? in
-    replay_stops c.replay.result (texts c.args.words.now.items) (g.F.Store.files c.args.store.now) _ _ _ _ _ _ form c.replay.ensures.ends
+    replay_stops c.replay.result (texts c.args.words.now.items) (g.F.Store.files c.args.store.now) _ _ _ _ (Rose-later _ _ _ c.in-Ok.ensures.saves_never_fall) _ _ _ form c.replay.ensures.ends
 
 pub returns-in-Ok-clause-wrote : goal.returns-in-Ok-clause-wrote
 returns-in-Ok-clause-wrote g c =
     replay_wrote c.replay.result (texts c.args.words.now.items) (g.F.Store.files c.args.store.now) _ _ _ _
-      (plan c.in-Ok.inputs.value c.in-Ok.inputs.image c.in-Ok.inputs.schedule.items) c.in-Ok.ensures.due c.replay.ensures.ends
+    (plan c.in-Ok.inputs.value c.in-Ok.inputs.image c.in-Ok.inputs.schedule.items) c.in-Ok.ensures.due c.replay.ensures.ends
 
 pub returns-in-Ok-clause-unsaved : goal.returns-in-Ok-clause-unsaved
 returns-in-Ok-clause-unsaved g c =
@@ -38,4 +38,4 @@ returns-in-Ok-clause-others_stay g c =
 
 pub returns-in-Err-clause-wrote : goal.returns-in-Err-clause-wrote
 returns-in-Err-clause-wrote g c =
-    inputs_wrote _ _ (texts c.args.words.now.items) (g.F.Store.files c.args.store.now) (g.K.Sink.written c.args.out.now) c.in-Err.fault c.in-Err.ensures.cause
+    inputs_wrote (told_due (texts c.args.words.now.items) (g.F.Store.files c.args.store.now)) (Rose (g.F.Store.failed_loads c.args.store.now) (g.F.Store.failed_loads c.load_inputs.new.store)) (texts c.args.words.now.items) (g.F.Store.files c.args.store.now) (g.K.Sink.written c.args.out.now) c.in-Err.fault c.in-Err.ensures.cause

@@ -1,4 +1,4 @@
-use Rattle.std.proofs.Common.{inl, inr}
+use Rattle.std.proofs.Common.{inl}
 use Rattle.smm_base.specs.Sink.{GainsPrefix-whole}
 use Rattle.smm_player.proofs.finish.tell.Goals as goal
 

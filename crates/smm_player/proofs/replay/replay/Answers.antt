@@ -11,3 +11,6 @@ pub returns-in-Ok-clause-ends : goal.returns-in-Ok-clause-ends
 returns-in-Ok-clause-ends g c =
     let is = report_is (plan c.args.inputs.now.value c.args.inputs.now.image c.deref.result.now) c.in-Ok.world.events c.in-Ok.world.world c.in-Ok.ensures.events c.in-Ok.ensures.world in
     rw (← c.deref.ensures.value, ← is) c.conclude.ensures.ends
+
+pub returns-in-Ok-clause-saved : goal.returns-in-Ok-clause-saved
+returns-in-Ok-clause-saved g c = rw (← c.deref.ensures.value, ← c.in-Ok.ensures.world) c.conclude.ensures.saved

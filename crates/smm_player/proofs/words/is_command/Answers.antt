@@ -1,4 +1,3 @@
-use Rattle.std.proofs.Common.{rules}
 use Rattle.smm_player.specs.Words.{is_step_word}
 use Rattle.smm_player.proofs.words.is_command.Goals as goal
 
