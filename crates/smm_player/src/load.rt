@@ -78,7 +78,7 @@ fn load_platform<F: Store>(
 }
 
 // The image of an image file.
-fn image_of(alloc: Global, bytes: &[u8]) -> Result<Image, Fault>
+pub(crate) fn image_of(alloc: Global, bytes: &[u8]) -> Result<Image, Fault>
     ensures found { IfOk result (λ image. images_found bytes.now ≡ Ok image) }
     ensures kind { IfOk result (λ image. image.kind ≡ Intel64) }
     ensures cause { IfErr result (ImagesCause bytes.now) }

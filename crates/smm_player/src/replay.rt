@@ -20,7 +20,7 @@ use smm_base::{NoMemory, SaveError, Sink, Store, WriteError};
 use std::alloc::Global;
 
 // The world after a schedule, with the events that led to it.
-fn run(
+pub(crate) fn run(
     alloc: Global,
     value: Option<u64>,
     image: &Image,

@@ -1,4 +1,8 @@
+use crate::load::image_of;
 use crate::play;
+use crate::replay::run;
+use crate::schedule::read_schedule;
+use save_state_map::Field;
 use smm_base::{MemSink, MemStore, NoMemory};
 use std::alloc::Global;
 use std::test::Fail;
@@ -204,6 +208,41 @@ fn a_handler_writes_a_register(rt: HostRuntime) -> Result<(), Fail> {
     after.as_mut_slice()[872] = 0xFB;
     after.as_mut_slice()[873] = 0x15;
     assert_eq!(rt; store.file("A"), Some(after.as_slice()));
+    Ok(())
+}
+
+#[test]
+fn an_io_instruction_is_not_restarted(rt: HostRuntime) -> Result<(), Fail> {
+    let alloc = rt.alloc();
+    let mut store = store(alloc, "1*3 0*15 1*3 0*6")?;
+    let mut bytes = images(alloc)?;
+    bytes.as_mut_slice()[780] = 0xFF;
+    store.put("B", &bytes)?;
+    let mut sink = MemSink::new(alloc, 4096, Vec::new(alloc))?;
+    let status = play(alloc, &words(alloc, "step P B S A")?, &mut store, &mut sink);
+    assert_eq!(rt; status, 0);
+    assert_eq!(rt; sink.bytes().as_slice(), REPORT.as_bytes());
+    assert_eq!(rt; store.file("A"), Some(images(alloc)?.as_slice()));
+    Ok(())
+}
+
+// The number in RAX after a handler has written a number there.
+fn rax_after(alloc: Global, value: u64) -> Result<Option<u64>, NoMemory> {
+    let actors = read_schedule(alloc, b"1*3 0*18 1*3 0*6")?;
+    let image = image_of(alloc, &images(alloc)?);
+    if let (Some(actors), Ok(image)) = (actors, image) {
+        let world = run(alloc, Some(value), &image, &actors)?;
+        Ok(world.after(0).field(Field::Rax))
+    } else {
+        Ok(None)
+    }
+}
+
+#[test]
+fn a_handler_may_write_any_number(rt: HostRuntime) -> Result<(), Fail> {
+    for value in [0, 1, u64::MAX] {
+        assert_eq!(rt; rax_after(rt.alloc(), value)?, Some(value));
+    }
     Ok(())
 }
 
