@@ -112,6 +112,15 @@ fn images(alloc: Global) -> Result<Vec<u8>, NoMemory> {
     Ok(bytes)
 }
 
+// The file of one image with one byte changed.
+fn images_with(alloc: Global, place: usize, byte: u8) -> Result<Vec<u8>, NoMemory> {
+    let mut bytes = images(alloc)?;
+    if let Some(changed) = bytes.as_mut_slice().get_mut(place) {
+        *changed = byte;
+    }
+    Ok(bytes)
+}
+
 // The platform with a handler.
 fn handler_platform(alloc: Global) -> Result<Vec<u8>, NoMemory> {
     let mut bytes = Vec::from_slice(alloc, PLATFORM.as_bytes())?;
@@ -204,9 +213,10 @@ fn a_handler_writes_a_register(rt: HostRuntime) -> Result<(), Fail> {
     let status = play(alloc, &words(alloc, "step H I S A")?, &mut store, &mut sink);
     assert_eq!(rt; status, 0);
     assert_eq!(rt; sink.bytes().as_slice(), HANDLER_REPORT.as_bytes());
-    let mut after = images(alloc)?;
-    after.as_mut_slice()[872] = 0xFB;
-    after.as_mut_slice()[873] = 0x15;
+    let mut after = images_with(alloc, 872, 0xFB)?;
+    if let Some(changed) = after.as_mut_slice().get_mut(873) {
+        *changed = 0x15;
+    }
     assert_eq!(rt; store.file("A"), Some(after.as_slice()));
     Ok(())
 }
@@ -215,9 +225,7 @@ fn a_handler_writes_a_register(rt: HostRuntime) -> Result<(), Fail> {
 fn an_io_instruction_is_not_restarted(rt: HostRuntime) -> Result<(), Fail> {
     let alloc = rt.alloc();
     let mut store = store(alloc, "1*3 0*15 1*3 0*6")?;
-    let mut bytes = images(alloc)?;
-    bytes.as_mut_slice()[780] = 0xFF;
-    store.put("B", &bytes)?;
+    store.put("B", &images_with(alloc, 780, 0xFF)?)?;
     let mut sink = MemSink::new(alloc, 4096, Vec::new(alloc))?;
     let status = play(alloc, &words(alloc, "step P B S A")?, &mut store, &mut sink);
     assert_eq!(rt; status, 0);
@@ -248,9 +256,7 @@ fn a_handler_may_write_any_number(rt: HostRuntime) -> Result<(), Fail> {
 
 // The images with one byte changed are played by one schedule; the status, and the report.
 fn with_byte(rt: HostRuntime, place: usize, byte: u8) -> Result<(u8, Vec<u8>), Fail> {
-    let alloc = rt.alloc();
-    let mut bytes = images(alloc)?;
-    bytes.as_mut_slice()[place] = byte;
+    let bytes = images_with(rt.alloc(), place, byte)?;
     with_images(rt, &bytes)
 }
 
