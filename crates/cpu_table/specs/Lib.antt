@@ -1,3 +1,4 @@
+pub mod Data
 pub mod Distinct
 pub mod Ranges
 pub mod Table
