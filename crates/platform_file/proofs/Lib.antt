@@ -1,0 +1,9 @@
+pub mod Chains
+pub mod Digits
+pub mod Documents
+pub mod Fits
+pub mod Growing
+pub mod ScheduleKnown
+pub mod ScheduleLists
+pub mod ScheduleSteps
+pub mod Tables

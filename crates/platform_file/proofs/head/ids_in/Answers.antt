@@ -1,0 +1,29 @@
+use Rattle.std.proofs.Common.{ℕ, ◌==◌, ◌∙◌, sym, inr, arith}
+use Rattle.std.proofs.lemmas.Result.{err_from_is_err_and}
+use Rattle.toml.specs.View.{view}
+use Rattle.platform_file.specs.Head.{id_after}
+use Rattle.platform_file.proofs.Growing.{length_more, distinct_more}
+use Rattle.platform_file.proofs.Chains.{each_found, each_stops, each_ends}
+use Rattle.platform_file.proofs.head.ids_in.Goals as goal
+
+pub returns-in_err-id-clause-refused : goal.returns-in_err-id-clause-refused
+returns-in_err-id-clause-refused c =
+    let p = err_from_is_err_and c.from_residual-in_err-id.result c.from_residual-in_err-id.ensures.1 in
+    let stops = each_stops id_after view c.loop-value.ids.items c.deref.result.now c.args.values.now c.loop-value.value-index c.value-item.result c.in_err-id.field-0.0 _ c.loop-value-test.true c.value-item.is c.deref.ensures.value (inr (sym c.in_err-id.ensures.id)) c.loop-value.invariant.so_far in
+    rw (p.1, p.2) stops
+
+pub loop-value-preserved : goal.loop-value-preserved
+loop-value-preserved c =
+    let next = each_found id_after view c.loop-value.ids.items c.deref.result.now c.in_ok-id.id c.args.values.now c.loop-value.value-index c.value-item.result c.loop-value-test.true c.value-item.is c.deref.ensures.value (sym c.in_ok-id.ensures.id) in
+    record {
+      so_far = rw c.in_ok-push.ensures.items (next ∙ c.loop-value.invariant.so_far);
+      count = rw c.in_ok-push.ensures.items (length_more c.loop-value.ids.items c.in_ok-id.id c.loop-value.value-index c.loop-value.invariant.count);
+      within = omega (arith, c.loop-value-test.true);
+      distinct = rw c.in_ok-push.ensures.items (distinct_more (λ (x : ℕ) (y : ℕ). x == y) c.loop-value.ids.items c.in_ok-id.id c.loop-value.invariant.distinct (rw c.deref.ensures.value at c.in_ok-id.ensures.fresh));
+    }
+
+pub returns-clause-ids : goal.returns-clause-ids
+returns-clause-ids c = each_ends id_after view c.loop-value.ids.items c.args.values.now c.loop-value.value-index _ (omega (arith, c.loop-value-test.false)) c.loop-value.invariant.so_far
+
+pub returns-clause-count : goal.returns-clause-count
+returns-clause-count c = omega (arith, c.loop-value-test.false, c.loop-value.invariant.within, c.loop-value.invariant.count)

@@ -1,0 +1,14 @@
+use Rattle.std.proofs.Common.{◌≡◌, ◌≤◌, [], map, drop, length, IsTrue}
+use Rattle.cpu_table.specs.Distinct.{are_distinct_numbers}
+use Rattle.toml.specs.View.{view}
+use Rattle.platform_file.specs.Reading.{each}
+use Rattle.platform_file.specs.Head.{id_after}
+use Rattle.platform_file.proofs.head.ids_in.Given as goal
+
+abbrev pub invariant-loop-value : goal.invariant-loop-value
+invariant-loop-value l = record {
+  count : length l.ids.items ≡ l.value-index;
+  within : l.value-index ≤ length l.values;
+  distinct : IsTrue (are_distinct_numbers l.ids.items);
+  so_far : each id_after l.ids.items (map view (drop l.value-index l.values)) ≡ each id_after [] (map view l.values);
+}

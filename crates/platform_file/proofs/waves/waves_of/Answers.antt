@@ -1,0 +1,30 @@
+use Rattle.std.proofs.Common.{◌∙◌, arith}
+use Rattle.std.proofs.lemmas.Result.{err_from_is_err_and}
+use Rattle.toml.specs.View.{view}
+use Rattle.platform_file.proofs.Chains.{each_found, each_stops, each_ends}
+use Rattle.platform_file.proofs.Growing.{all_more, length_more}
+use Rattle.cpu_table.specs.Ranges.{wave_fits}
+use Rattle.platform_file.specs.Waves.{wave_after}
+use Rattle.platform_file.proofs.waves.waves_of.Goals as goal
+
+pub returns-in_err-wave-clause-refused : goal.returns-in_err-wave-clause-refused
+returns-in_err-wave-clause-refused c =
+    let p = err_from_is_err_and c.from_residual-in_err-wave.result c.from_residual-in_err-wave.ensures.1 in
+    let stops = each_stops (wave_after c.args.processors) view c.loop-value.waves.items c.deref.result.now c.args.values.now c.loop-value.value-index c.value-item.result c.in_err-wave.field-0.0 _ c.loop-value-test.true c.value-item.is c.deref.ensures.value c.in_err-wave.ensures.refused c.loop-value.invariant.so_far in
+    rw (p.1, p.2) stops
+
+pub loop-value-preserved : goal.loop-value-preserved
+loop-value-preserved c =
+    let next = each_found (wave_after c.args.processors) view c.loop-value.waves.items c.deref.result.now c.in_ok-wave.wave c.args.values.now c.loop-value.value-index c.value-item.result c.loop-value-test.true c.value-item.is c.deref.ensures.value c.in_ok-wave.ensures.wave in
+    record {
+      so_far = rw c.in_ok-push.ensures.items (next ∙ c.loop-value.invariant.so_far);
+      count = rw c.in_ok-push.ensures.items (length_more c.loop-value.waves.items c.in_ok-wave.wave c.loop-value.value-index c.loop-value.invariant.count);
+      within = omega (arith, c.loop-value-test.true);
+      fit = rw c.in_ok-push.ensures.items (all_more (wave_fits c.args.processors) c.loop-value.waves.items c.in_ok-wave.wave c.loop-value.invariant.fit c.in_ok-wave.ensures.fits);
+    }
+
+pub returns-clause-waves : goal.returns-clause-waves
+returns-clause-waves c = each_ends (wave_after c.args.processors) view c.loop-value.waves.items c.args.values.now c.loop-value.value-index _ (omega (arith, c.loop-value-test.false)) c.loop-value.invariant.so_far
+
+pub returns-clause-count : goal.returns-clause-count
+returns-clause-count c = omega (arith, c.loop-value-test.false, c.loop-value.invariant.within, c.loop-value.invariant.count)

@@ -1,0 +1,13 @@
+pub mod Area
+pub mod Causes
+pub mod Handlers
+pub mod Head
+pub mod Operations
+pub mod Path
+pub mod Reading
+pub mod Registers
+pub mod Schedule
+pub mod ScheduleInside
+pub mod Walk
+pub mod Waves
+pub mod Words

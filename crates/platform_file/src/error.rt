@@ -1,0 +1,122 @@
+ghost use Rattle.std.specs.Prelude.{◌≡◌, ◌⊎◌, ◌++◌, IfOk, IfErr, string_bytes};
+ghost use Rattle.platform_file.specs.Path.{entry_text, place_text, name_under, path_text};
+ghost use Rattle.platform_file.specs.Walk.{error_of};
+ghost use Rattle.platform_file.specs.declared.error.PlatformError.TheVariants.{NoMemory as no_memory};
+
+use crate::fault::Fault;
+use crate::path::{Path, Place};
+use cpu_table::Text;
+use smm_base::NoMemory;
+use std::alloc::Global;
+use std::fmt;
+
+/// Why a file is no platform: its first fault, in the order of the keys, of a list's entries and of
+/// the tables. A key is told by its path, as `wave[0].status` or `handler[2].ops[1].reg`.
+#[derive(Debug, Drop)]
+pub enum PlatformError {
+    /// The bytes are no TOML document.
+    NotToml,
+    /// The key must be there, and isn't.
+    Missing(Text),
+    /// The value is of another kind, or the entry of a list of tables is no table.
+    WrongType(Text),
+    /// The text is none of the words that the key may have, or a name that is too short, too long
+    /// or taken.
+    Word(Text),
+    /// The number, or the length of the list, is outside its range, or stands there twice.
+    Range(Text, i64),
+    /// The table has no such key.
+    Unknown(Text),
+    /// A schedule could make this many events, which is more than 4,194,304.
+    TooLarge(u64),
+    NoMemory,
+}
+
+/// The words that a fault line tells: `missing KEY`, `range KEY NUMBER` and so on.
+impl fmt::Display for PlatformError {
+    fn fmt<W: fmt::Write>(&self, f: &mut fmt::Formatter<W>) -> fmt::Result {
+        match self {
+            PlatformError::NotToml => f.write_str("not-toml"),
+            PlatformError::Missing(key) => write!(f, "missing {}", key.as_str()),
+            PlatformError::WrongType(key) => write!(f, "type {}", key.as_str()),
+            PlatformError::Word(key) => write!(f, "word {}", key.as_str()),
+            PlatformError::Range(key, number) => write!(f, "range {} {number}", key.as_str()),
+            PlatformError::Unknown(key) => write!(f, "unknown {}", key.as_str()),
+            PlatformError::TooLarge(events) => write!(f, "too-large {events}"),
+            PlatformError::NoMemory => f.write_str("memory"),
+        }
+    }
+}
+
+impl From<NoMemory> for PlatformError {
+    ghost use Rattle.platform_file.specs.declared.error.PlatformError.TheVariants.{NoMemory as no_memory};
+
+    ghost from_gives = { λ _ e. e ≡ no_memory };
+
+    fn from(_: NoMemory) -> Self {
+        PlatformError::NoMemory
+    }
+}
+
+// A table by its key, and an entry by its place in brackets behind.
+fn place_text(alloc: Global, place: Place) -> Result<String, NoMemory>
+    ensures { IfOk result (λ text. string_bytes text ≡ place_text place) }
+{
+    Ok(match place {
+        Place::Top => String::new(alloc),
+        Place::Smram => String::from_str(alloc, "smram")?,
+        Place::Wave(at) => format!(in alloc; "wave[{at}]")?,
+        Place::Handler(at) => format!(in alloc; "handler[{at}]")?,
+        Place::Operation(handler, at) => format!(in alloc; "handler[{handler}].ops[{at}]")?,
+        Place::Procedure(at) => format!(in alloc; "procedure[{at}]")?,
+        Place::Cause(at) => format!(in alloc; "cause[{at}]")?,
+        Place::Io(at) => format!(in alloc; "cause[{at}].io")?,
+    })
+}
+
+// A name in a table.
+fn name_under(alloc: Global, place: Place, name: &str) -> Result<Text, NoMemory>
+    ensures { IfOk result (λ text. text ≡ name_under place name.now) }
+{
+    let mut text = place_text(alloc, place)?;
+    if !text.is_empty() {
+        text.push_str(".")?;
+    }
+    text.push_str(name)?;
+    Ok(Text::new(text))
+}
+
+// The path of a key.
+fn path_text(alloc: Global, path: Path) -> Result<Text, NoMemory>
+    ensures { IfOk result (λ text. text ≡ path_text path) }
+{
+    name_under(alloc, path.place, path.key.text())
+}
+
+// The error of a fault, with its key as a path.
+fn explain(alloc: Global, fault: Fault) -> Result<PlatformError, NoMemory>
+    ensures { IfOk result (λ error. error ≡ error_of fault) }
+{
+    Ok(match fault {
+        Fault::Missing(path) => PlatformError::Missing(path_text(alloc, path)?),
+        Fault::WrongType(path) => PlatformError::WrongType(path_text(alloc, path)?),
+        Fault::NoTable(place) => PlatformError::WrongType(Text::new(place_text(alloc, place)?)),
+        Fault::Word(path) => PlatformError::Word(path_text(alloc, path)?),
+        Fault::Range(path, number) => PlatformError::Range(path_text(alloc, path)?, number),
+        Fault::Unknown(place, name) => {
+            PlatformError::Unknown(name_under(alloc, place, name.as_str())?)
+        }
+        Fault::TooLarge(events) => PlatformError::TooLarge(events),
+        Fault::NoMemory => PlatformError::NoMemory,
+    })
+}
+
+/// The error of a fault, or want of memory for its text.
+pub fn error_of(alloc: Global, fault: Fault) -> PlatformError
+    ensures { (result ≡ no_memory) ⊎ (result ≡ error_of fault) }
+{
+    match explain(alloc, fault) {
+        Ok(error) => error,
+        Err(_) => PlatformError::NoMemory,
+    }
+}

@@ -1,0 +1,353 @@
+ghost use Rattle.std.specs.Prelude.{◌≡◌, ◌≤◌, ◌<◌, [], IfOk, IfErr, IfSome, Ok, IsTrue, map, length};
+ghost use Rattle.std.specs.List.{list_all, position};
+ghost use Rattle.toml.specs.View.{view, table_view};
+ghost use Rattle.cpu_table.specs.Ranges.{is_variable, is_register_number, op_fits};
+ghost use Rattle.platform_file.specs.Reading.{StopsAt, each, path_to};
+ghost use Rattle.platform_file.specs.Operations.{cpu_at, register_at, width_at, into_at, kind_at, handler_named, handler_at, has_name, set_in, read_in, write_in, start_in, launch_in, check_in, wait_in, alloc_in, free_in, register_in, unregister_in, manage_in, operation_by, operation_keys, operation_as, operation_in, operation_after};
+
+use crate::document::{entry_of, member, number_at, refuse_others, text_at, word_at};
+use crate::fault::Fault;
+use crate::operand::{Variable, operand_at};
+use crate::path::{Key, Path, Place};
+use crate::word::OperationWord;
+use cpu_table::{OpDef, Text};
+use smm_base::{HandlerType, Register};
+use std::alloc::Global;
+use toml::{Table, Value};
+
+// A key of an operation.
+fn key(place: Place, key: Key) -> Path
+    ensures { result ≡ path_to place key }
+{
+    Path { place, key }
+}
+
+fn cpu_at(table: &Table, place: Place) -> Result<u16, Fault>
+    ensures { result ≡ cpu_at place (table_view table.now) }
+{
+    let number = number_at(table, key(place, Key::Cpu), 0, 65535)?;
+    Ok(number as u16)
+}
+
+/// The number of a register that a key `reg` names.
+pub fn register_at(table: &Table, place: Place) -> Result<u32, Fault>
+    ensures register { result ≡ register_at place (table_view table.now) }
+    ensures fits { IfOk result (λ number. IsTrue (is_register_number number)) }
+{
+    let register: Register = word_at(table, key(place, Key::Reg))?;
+    Ok(register.number())
+}
+
+fn width_at(table: &Table, place: Place) -> Result<u8, Fault>
+    ensures width { result ≡ width_at place (table_view table.now) }
+    ensures fits { IfOk result (λ width. width ≤ 24) }
+{
+    let width = number_at(table, key(place, Key::Width), 0, 24)?;
+    Ok(width as u8)
+}
+
+fn into_at(table: &Table, place: Place) -> Result<u8, Fault>
+    ensures into { result ≡ into_at place (table_view table.now) }
+    ensures fits { IfOk result (λ into. IsTrue (is_variable into)) }
+{
+    let variable: Variable = word_at(table, key(place, Key::Into))?;
+    Ok(variable.number)
+}
+
+fn kind_at(table: &Table, place: Place) -> Result<HandlerType, Fault>
+    ensures { result ≡ kind_at place (table_view table.now) }
+{
+    word_at(table, key(place, Key::Type))
+}
+
+// Has the entry of the list of handlers this name?
+fn has_name(entry: &Value, name: &str) -> bool
+    ensures { result ≡ has_name name.now (view entry.now) }
+{
+    match entry.get("name") {
+        Some(value) => value.as_str() == Some(name),
+        None => false,
+    }
+}
+
+// The place of the first entry of this name.
+fn place_of(handlers: &[Value], name: &str) -> Option<usize>
+    ensures place { result ≡ position (λ entry. has_name name.now (view entry)) handlers.now }
+    ensures within { IfSome result (λ place. place < length handlers.now) }
+{
+    handlers.iter().position(|entry| has_name(entry, name))
+}
+
+// The place of the first handler of this name.
+fn handler_named(handlers: &[Value], name: &str) -> Option<usize>
+    ensures place { result ≡ handler_named (map view handlers.now) name.now }
+    ensures within { IfSome result (λ place. place < length handlers.now) }
+{
+    place_of(handlers, name)
+}
+
+// The place of the handler that a key `handler` names.
+fn handler_at(table: &Table, place: Place, handlers: &[Value]) -> Result<u16, Fault>
+    requires { length handlers.now ≤ 64 }
+    ensures handler { result ≡ handler_at (map view handlers.now) place (table_view table.now) }
+    ensures within { IfOk result (λ handler. handler < length handlers.now) }
+{
+    let path = key(place, Key::Handler);
+    match member(table, path) {
+        Some(value) => match value.as_str() {
+            Some(name) => match handler_named(handlers, name) {
+                Some(handler) => Ok(handler as u16),
+                None => Err(Fault::Word(path)),
+            },
+            None => Err(Fault::WrongType(path)),
+        },
+        None => Err(Fault::Missing(path)),
+    }
+}
+
+fn set_in(table: &Table, place: Place) -> Result<OpDef, Fault>
+    ensures operation { result ≡ set_in place (table_view table.now) }
+    ensures fits { IfOk result (λ operation. IsTrue (op_fits 0 operation)) }
+{
+    let into = into_at(table, place)?;
+    let value = operand_at(table, key(place, Key::Value))?;
+    Ok(OpDef::Set { into, value })
+}
+
+fn read_in(table: &Table, place: Place) -> Result<OpDef, Fault>
+    ensures operation { result ≡ read_in place (table_view table.now) }
+    ensures fits { IfOk result (λ operation. IsTrue (op_fits 0 operation)) }
+{
+    let cpu = cpu_at(table, place)?;
+    let reg = register_at(table, place)?;
+    let width = width_at(table, place)?;
+    let into = into_at(table, place)?;
+    Ok(OpDef::Read {
+        cpu,
+        reg,
+        width,
+        into,
+    })
+}
+
+fn write_in(table: &Table, place: Place) -> Result<OpDef, Fault>
+    ensures operation { result ≡ write_in place (table_view table.now) }
+    ensures fits { IfOk result (λ operation. IsTrue (op_fits 0 operation)) }
+{
+    let cpu = cpu_at(table, place)?;
+    let reg = register_at(table, place)?;
+    let width = width_at(table, place)?;
+    let value = operand_at(table, key(place, Key::Value))?;
+    Ok(OpDef::Write {
+        cpu,
+        reg,
+        width,
+        value,
+    })
+}
+
+fn start_in(alloc: Global, table: &Table, place: Place) -> Result<OpDef, Fault>
+    ensures operation { IfOk result (λ operation. start_in place (table_view table.now) ≡ Ok operation) }
+    ensures fits { IfOk result (λ operation. IsTrue (op_fits 0 operation)) }
+    ensures refused { IfErr result (StopsAt (start_in place (table_view table.now))) }
+{
+    let cpu = cpu_at(table, place)?;
+    let procedure = text_at(alloc, table, key(place, Key::Procedure))?;
+    let arg = operand_at(table, key(place, Key::Arg))?;
+    let into = into_at(table, place)?;
+    Ok(OpDef::Start {
+        cpu,
+        procedure,
+        arg,
+        into,
+    })
+}
+
+fn launch_in(alloc: Global, table: &Table, place: Place) -> Result<OpDef, Fault>
+    ensures operation { IfOk result (λ operation. launch_in place (table_view table.now) ≡ Ok operation) }
+    ensures fits { IfOk result (λ operation. IsTrue (op_fits 0 operation)) }
+    ensures refused { IfErr result (StopsAt (launch_in place (table_view table.now))) }
+{
+    let cpu = cpu_at(table, place)?;
+    let procedure = text_at(alloc, table, key(place, Key::Procedure))?;
+    let arg = operand_at(table, key(place, Key::Arg))?;
+    let into = into_at(table, place)?;
+    Ok(OpDef::Launch {
+        cpu,
+        procedure,
+        arg,
+        into,
+    })
+}
+
+fn check_in(table: &Table, place: Place) -> Result<OpDef, Fault>
+    ensures operation { result ≡ check_in place (table_view table.now) }
+    ensures fits { IfOk result (λ operation. IsTrue (op_fits 0 operation)) }
+{
+    let token = operand_at(table, key(place, Key::Token))?;
+    Ok(OpDef::Check { token })
+}
+
+fn wait_in(table: &Table, place: Place) -> Result<OpDef, Fault>
+    ensures operation { result ≡ wait_in place (table_view table.now) }
+    ensures fits { IfOk result (λ operation. IsTrue (op_fits 0 operation)) }
+{
+    let token = operand_at(table, key(place, Key::Token))?;
+    let into = into_at(table, place)?;
+    Ok(OpDef::Wait { token, into })
+}
+
+fn alloc_in(table: &Table, place: Place) -> Result<OpDef, Fault>
+    ensures operation { result ≡ alloc_in place (table_view table.now) }
+    ensures fits { IfOk result (λ operation. IsTrue (op_fits 0 operation)) }
+{
+    let size = operand_at(table, key(place, Key::Size))?;
+    let into = into_at(table, place)?;
+    Ok(OpDef::Alloc { size, into })
+}
+
+fn free_in(table: &Table, place: Place) -> Result<OpDef, Fault>
+    ensures operation { result ≡ free_in place (table_view table.now) }
+    ensures fits { IfOk result (λ operation. IsTrue (op_fits 0 operation)) }
+{
+    let freed = operand_at(table, key(place, Key::Place))?;
+    Ok(OpDef::Free { place: freed })
+}
+
+fn register_in(table: &Table, place: Place, handlers: &[Value]) -> Result<OpDef, Fault>
+    requires { length handlers.now ≤ 64 }
+    ensures operation { result ≡ register_in (map view handlers.now) place (table_view table.now) }
+    ensures fits { IfOk result (λ operation. IsTrue (op_fits (length handlers.now) operation)) }
+{
+    let handler = handler_at(table, place, handlers)?;
+    let kind = kind_at(table, place)?;
+    let into = into_at(table, place)?;
+    Ok(OpDef::Register {
+        handler,
+        kind,
+        into,
+    })
+}
+
+fn unregister_in(table: &Table, place: Place) -> Result<OpDef, Fault>
+    ensures operation { result ≡ unregister_in place (table_view table.now) }
+    ensures fits { IfOk result (λ operation. IsTrue (op_fits 0 operation)) }
+{
+    let handle = operand_at(table, key(place, Key::Handle))?;
+    Ok(OpDef::Unregister { handle })
+}
+
+fn manage_in(table: &Table, place: Place) -> Result<OpDef, Fault>
+    ensures operation { result ≡ manage_in place (table_view table.now) }
+    ensures fits { IfOk result (λ operation. IsTrue (op_fits 0 operation)) }
+{
+    let kind = kind_at(table, place)?;
+    Ok(OpDef::Manage { kind })
+}
+
+// The keys of an operation behind its `op`.
+fn operation_by(
+    alloc: Global,
+    table: &Table,
+    place: Place,
+    handlers: &[Value],
+    word: OperationWord,
+) -> Result<OpDef, Fault>
+    requires { length handlers.now ≤ 64 }
+    ensures operation { IfOk result (λ operation. operation_by (map view handlers.now) place (table_view table.now) word ≡ Ok operation) }
+    ensures fits { IfOk result (λ operation. IsTrue (op_fits (length handlers.now) operation)) }
+    ensures refused { IfErr result (StopsAt (operation_by (map view handlers.now) place (table_view table.now) word)) }
+{
+    match word {
+        OperationWord::Set => set_in(table, place),
+        OperationWord::Read => read_in(table, place),
+        OperationWord::Write => write_in(table, place),
+        OperationWord::Start => start_in(alloc, table, place),
+        OperationWord::Launch => launch_in(alloc, table, place),
+        OperationWord::Check => check_in(table, place),
+        OperationWord::Wait => wait_in(table, place),
+        OperationWord::Alloc => alloc_in(table, place),
+        OperationWord::Free => free_in(table, place),
+        OperationWord::Register => register_in(table, place, handlers),
+        OperationWord::Unregister => unregister_in(table, place),
+        OperationWord::Manage => manage_in(table, place),
+    }
+}
+
+// The keys of an operation.
+fn operation_keys(word: OperationWord) -> &'static [Key]
+    ensures { result.now ≡ operation_keys word }
+{
+    match word {
+        OperationWord::Set => &[Key::Op, Key::Into, Key::Value],
+        OperationWord::Read => &[Key::Op, Key::Cpu, Key::Reg, Key::Width, Key::Into],
+        OperationWord::Write => &[Key::Op, Key::Cpu, Key::Reg, Key::Width, Key::Value],
+        OperationWord::Start => &[Key::Op, Key::Cpu, Key::Procedure, Key::Arg, Key::Into],
+        OperationWord::Launch => &[Key::Op, Key::Cpu, Key::Procedure, Key::Arg, Key::Into],
+        OperationWord::Check => &[Key::Op, Key::Token],
+        OperationWord::Wait => &[Key::Op, Key::Token, Key::Into],
+        OperationWord::Alloc => &[Key::Op, Key::Size, Key::Into],
+        OperationWord::Free => &[Key::Op, Key::Place],
+        OperationWord::Register => &[Key::Op, Key::Handler, Key::Type, Key::Into],
+        OperationWord::Unregister => &[Key::Op, Key::Handle],
+        OperationWord::Manage => &[Key::Op, Key::Type],
+    }
+}
+
+// The operation that a table tells.
+fn operation_in(
+    alloc: Global,
+    table: &Table,
+    place: Place,
+    handlers: &[Value],
+) -> Result<OpDef, Fault>
+    requires { length handlers.now ≤ 64 }
+    ensures operation { IfOk result (λ operation. operation_in (map view handlers.now) place (table_view table.now) ≡ Ok operation) }
+    ensures fits { IfOk result (λ operation. IsTrue (op_fits (length handlers.now) operation)) }
+    ensures refused { IfErr result (StopsAt (operation_in (map view handlers.now) place (table_view table.now))) }
+{
+    let word = word_at(table, key(place, Key::Op))?;
+    let operation = operation_by(alloc, table, place, handlers, word)?;
+    refuse_others(alloc, table, place, operation_keys(word))?;
+    Ok(operation)
+}
+
+// The next operation of a handler.
+fn operation_after(
+    alloc: Global,
+    value: &Value,
+    handler: usize,
+    done: &[OpDef],
+    handlers: &[Value],
+) -> Result<OpDef, Fault>
+    requires { length handlers.now ≤ 64 }
+    ensures operation { IfOk result (λ operation. operation_after (map view handlers.now) handler done.now (view value.now) ≡ Ok operation) }
+    ensures fits { IfOk result (λ operation. IsTrue (op_fits (length handlers.now) operation)) }
+    ensures refused { IfErr result (StopsAt (operation_after (map view handlers.now) handler done.now (view value.now))) }
+{
+    let place = Place::Operation(handler, done.len());
+    let table = entry_of(value, place)?;
+    operation_in(alloc, table, place, handlers)
+}
+
+/// The operations of a handler, each read where it stands. `handlers` are all entries of the list of
+/// handlers, whose names an operation may use.
+pub fn operations_of(
+    alloc: Global,
+    values: &[Value],
+    handler: usize,
+    handlers: &[Value],
+) -> Result<Vec<OpDef>, Fault>
+    requires { length handlers.now ≤ 64 }
+    ensures operations { IfOk result (λ operations. each (operation_after (map view handlers.now) handler) [] (map view values.now) ≡ Ok operations.items) }
+    ensures count { IfOk result (λ operations. length operations.items ≡ length values.now) }
+    ensures fit { IfOk result (λ operations. IsTrue (list_all (op_fits (length handlers.now)) operations.items)) }
+    ensures refused { IfErr result (StopsAt (each (operation_after (map view handlers.now) handler) [] (map view values.now))) }
+{
+    let mut operations = Vec::with_capacity(alloc, values.len())?;
+    for value in values {
+        let operation = operation_after(alloc, value, handler, &operations, handlers)?;
+        operations.push(operation)?;
+    }
+    Ok(operations)
+}
