@@ -3,16 +3,18 @@ use Rattle.std.proofs.Common.{ℕ, ◌+◌, ◌-◌, ◌%◌, ◌≡◌, ◌≢�
 use Rattle.std.proofs.lemmas.Bool.{cases_eq, cases_lt, eq-eqb, ne_eqb, le-leb, lt-leb}
 use Rattle.sync_words.specs.declared.row.Row.{Row}
 use Rattle.sync_words.specs.declared.row.Row.TheVariants.{AnnounceBlocked, AnnounceWave, RaiseWave, WatchSource, AwaitServed, RaiseOff}
-use Rattle.rendezvous_core.specs.declared.phase.Arrival.{Arrival}
-use Rattle.rendezvous_core.specs.declared.phase.Arrival.TheVariants.{Prompt, Delayed, Blocked, Absent}
-use Rattle.rendezvous_core.specs.Platform.{Platform, Wave, Handler, with_one, wave_at, blocked_in, status_in, signal_of, signal_at}
+use Rattle.cpu_table.specs.declared.waves.Arrival.{Arrival}
+use Rattle.cpu_table.specs.declared.waves.Arrival.TheVariants.{Prompt, Delayed, Blocked, Absent}
+use Rattle.cpu_table.specs.declared.setup.CauseAt.{CauseAt}
+use Rattle.cpu_table.specs.declared.waves.Wave.{Wave}
+use Rattle.rendezvous_core.specs.Platform.{Platform, Handler, with_one, wave_at, blocked_in, status_in, signal_of, signal_at}
 use Rattle.rendezvous_core.specs.Worlds.{step}
 use Rattle.rendezvous_core.proofs.Shape.{Shape, Kept, world_at, machine_at, SignalFits, is_in, is_gone, inside_of}
 use Rattle.rendezvous_core.proofs.Processor.{At, fine}
 
-announce_blocked : (a b v o : ℕ) (ws : List Wave) (hs : List Handler) (r : Option Row) (x : Shape) → At a b v o ws hs 1 r (Some AnnounceBlocked) x
-announce_blocked a b v o ws hs r x h =
-    let p : Platform = with_one a b v o ws hs in
+announce_blocked : (a b v o : ℕ) (ws : List Wave) (hs : List Handler) (cs : List CauseAt) (r : Option Row) (x : Shape) → At a b v o ws hs cs 1 r (Some AnnounceBlocked) x
+announce_blocked a b v o ws hs cs r x h =
+    let p : Platform = with_one a b v o ws hs cs in
     let e : x.next_wave ≡ x.waves + 1 = h.chipset.1 in
     let x' : Shape = record x { except = blocked_in (wave_at p x.next_wave) } in (
       refl,
@@ -20,9 +22,9 @@ announce_blocked a b v o ws hs r x h =
       fine p r (Some AnnounceWave) x' (record { processor = h.processor; chipset = h.chipset; signal = h.signal }),
     )
 
-announce_wave : (a b v o : ℕ) (ws : List Wave) (hs : List Handler) (r : Option Row) (x : Shape) → At a b v o ws hs 1 r (Some AnnounceWave) x
-announce_wave a b v o ws hs r x h =
-    let p : Platform = with_one a b v o ws hs in
+announce_wave : (a b v o : ℕ) (ws : List Wave) (hs : List Handler) (cs : List CauseAt) (r : Option Row) (x : Shape) → At a b v o ws hs cs 1 r (Some AnnounceWave) x
+announce_wave a b v o ws hs cs r x h =
+    let p : Platform = with_one a b v o ws hs cs in
     let e : x.waves + 1 ≡ x.next_wave = sym h.chipset.1 in
     let l = h.chipset.0 in
     let s = h.signal in
@@ -60,9 +62,9 @@ raised_wave p inside gone waves pend to bit l m n s =
 is_in-le : (r : Option Row) → is_in r ≤ 1
 is_in-le r = grind arith
 
-raise_wave : (a b v o : ℕ) (ws : List Wave) (hs : List Handler) (r : Option Row) (x : Shape) → At a b v o ws hs 1 r (Some (RaiseWave 0)) x
-raise_wave a b v o ws hs r x h =
-    let p : Platform = with_one a b v o ws hs in
+raise_wave : (a b v o : ℕ) (ws : List Wave) (hs : List Handler) (cs : List CauseAt) (r : Option Row) (x : Shape) → At a b v o ws hs cs 1 r (Some (RaiseWave 0)) x
+raise_wave a b v o ws hs cs r x h =
+    let p : Platform = with_one a b v o ws hs cs in
     let to : ℕ = signal_at (wave_at p x.next_wave) 0 in
     let arrival : Arrival = slice_index_or (status_in (wave_at p x.next_wave)) 0 Absent in
     ⊎_elim
@@ -85,9 +87,9 @@ raise_wave a b v o ws hs r x h =
     (cases_eq (x.pend % 8) 1))
     (cases_eq (x.pend % 8) 4)
 
-watch_source : (a b v o looks : ℕ) (ws : List Wave) (hs : List Handler) (r : Option Row) (x : Shape) → At a b v o ws hs 1 r (Some (WatchSource looks)) x
-watch_source a b v o looks ws hs r x h =
-    let p : Platform = with_one a b v o ws hs in
+watch_source : (a b v o looks : ℕ) (ws : List Wave) (hs : List Handler) (cs : List CauseAt) (r : Option Row) (x : Shape) → At a b v o ws hs cs 1 r (Some (WatchSource looks)) x
+watch_source a b v o looks ws hs cs r x h =
+    let p : Platform = with_one a b v o ws hs cs in
     ⊎_elim
     (λ (z : x.source ≡ 0). simp (eq-eqb x.source 0 z) (refl, tt, fine p r (Some AwaitServed) x (record { processor = h.processor; chipset = h.chipset; signal = h.signal })))
     (λ (z : x.source ≢ 0).
@@ -98,9 +100,9 @@ watch_source a b v o looks ws hs r x h =
     (cases_eq x.source 0)
 
 -- the next wave, or the end
-await_served : (a b v o : ℕ) (ws : List Wave) (hs : List Handler) (r : Option Row) (x : Shape) → At a b v o ws hs 1 r (Some AwaitServed) x
-await_served a b v o ws hs r x h =
-    let p : Platform = with_one a b v o ws hs in
+await_served : (a b v o : ℕ) (ws : List Wave) (hs : List Handler) (cs : List CauseAt) (r : Option Row) (x : Shape) → At a b v o ws hs cs 1 r (Some AwaitServed) x
+await_served a b v o ws hs cs r x h =
+    let p : Platform = with_one a b v o ws hs cs in
     let e : x.next_wave ≡ x.waves = h.chipset.2 in
     let most = h.chipset.1 in
     ⊎_elim
@@ -124,9 +126,9 @@ raised_off p inside gone waves pend bit l s =
     let high = s.high in
     record { low = omega arith; high = omega arith; deliverable = λ q. absurd (omega arith); deliverable_inside = λ q. absurd (omega arith); off = λ q g. l; off_inside = λ q. l }
 
-raise_off : (a b v o : ℕ) (ws : List Wave) (hs : List Handler) (r : Option Row) (x : Shape) → At a b v o ws hs 1 r (Some (RaiseOff 0)) x
-raise_off a b v o ws hs r x h =
-    let p : Platform = with_one a b v o ws hs in
+raise_off : (a b v o : ℕ) (ws : List Wave) (hs : List Handler) (cs : List CauseAt) (r : Option Row) (x : Shape) → At a b v o ws hs cs 1 r (Some (RaiseOff 0)) x
+raise_off a b v o ws hs cs r x h =
+    let p : Platform = with_one a b v o ws hs cs in
     ⊎_elim
     (λ (z : x.pend % 8 ≡ 4).
     simp (eq-eqb (x.pend % 8) 4 z)
@@ -148,16 +150,16 @@ raise_off a b v o ws hs r x h =
     (cases_eq (x.pend % 8) 4)
 
 -- the chipset at any row
-pub chipset_kept : (a b v o : ℕ) (ws : List Wave) (hs : List Handler) (r c : Option Row) (x : Shape) → At a b v o ws hs 1 r c x
-chipset_kept a b v o ws hs r None x h = fine (with_one a b v o ws hs) r None x h
-chipset_kept a b v o ws hs r (Some AnnounceBlocked) x h = announce_blocked a b v o ws hs r x h
-chipset_kept a b v o ws hs r (Some AnnounceWave) x h = announce_wave a b v o ws hs r x h
-chipset_kept a b v o ws hs r (Some (RaiseWave j)) x h =
-    let P : ℕ → Type 0 = λ (y : ℕ). At a b v o ws hs 1 r (Some (RaiseWave y)) x in
-    subst P (sym h.chipset.0) (raise_wave a b v o ws hs r x) h
-chipset_kept a b v o ws hs r (Some (WatchSource looks)) x h = watch_source a b v o looks ws hs r x h
-chipset_kept a b v o ws hs r (Some AwaitServed) x h = await_served a b v o ws hs r x h
-chipset_kept a b v o ws hs r (Some (RaiseOff j)) x h =
-    let P : ℕ → Type 0 = λ (y : ℕ). At a b v o ws hs 1 r (Some (RaiseOff y)) x in
-    subst P (sym h.chipset.0) (raise_off a b v o ws hs r x) h
-chipset_kept a b v o ws hs r (Some _) x h = absurd h.chipset
+pub chipset_kept : (a b v o : ℕ) (ws : List Wave) (hs : List Handler) (cs : List CauseAt) (r c : Option Row) (x : Shape) → At a b v o ws hs cs 1 r c x
+chipset_kept a b v o ws hs cs r None x h = fine (with_one a b v o ws hs cs) r None x h
+chipset_kept a b v o ws hs cs r (Some AnnounceBlocked) x h = announce_blocked a b v o ws hs cs r x h
+chipset_kept a b v o ws hs cs r (Some AnnounceWave) x h = announce_wave a b v o ws hs cs r x h
+chipset_kept a b v o ws hs cs r (Some (RaiseWave j)) x h =
+    let P : ℕ → Type 0 = λ (y : ℕ). At a b v o ws hs cs 1 r (Some (RaiseWave y)) x in
+    subst P (sym h.chipset.0) (raise_wave a b v o ws hs cs r x) h
+chipset_kept a b v o ws hs cs r (Some (WatchSource looks)) x h = watch_source a b v o looks ws hs cs r x h
+chipset_kept a b v o ws hs cs r (Some AwaitServed) x h = await_served a b v o ws hs cs r x h
+chipset_kept a b v o ws hs cs r (Some (RaiseOff j)) x h =
+    let P : ℕ → Type 0 = λ (y : ℕ). At a b v o ws hs cs 1 r (Some (RaiseOff y)) x in
+    subst P (sym h.chipset.0) (raise_off a b v o ws hs cs r x) h
+chipset_kept a b v o ws hs cs r (Some _) x h = absurd h.chipset

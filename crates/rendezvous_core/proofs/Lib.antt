@@ -4,9 +4,13 @@ pub mod Processor
 pub mod Chipset
 pub mod Runs
 pub mod Resuming
-pub mod ChairLemmas
 pub mod WordMapLemmas
 pub mod SeatLemmas
 pub mod ServiceLemmas
 pub mod Waiting
+pub mod SetupLemmas
+pub mod ListingLemmas
+pub mod ChairLemmas
+pub mod ReplayLemmas
 pub mod Example
+pub mod KeptKind

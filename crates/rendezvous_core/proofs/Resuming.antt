@@ -5,10 +5,11 @@ use Rattle.save_state_map.specs.Images.{ImageContents}
 use Rattle.cpu_regs.specs.Registers.{loaded}
 use Rattle.sync_words.specs.declared.label.Label.{Label}
 use Rattle.sync_words.specs.declared.label.Label.TheVariants as label
+use Rattle.rendezvous_core.specs.Platform.{Platform}
 use Rattle.rendezvous_core.specs.Machine.{Machine, Member, effect, machine_after, member, beginning, Resumed, resumed_by, resumed_after, resumed_image, first_member}
 
 abbrev resumed_of : Member → Resumed
-resumed_of x = record { registers = x.registers; image = x.image; last = x.last }
+resumed_of x = record { visits = x.visits; registers = x.registers; image = x.image; last = x.last }
 
 -- a machine of one processor
 abbrev with_member_only : Member → Machine → Machine
@@ -19,29 +20,29 @@ record IsOne (m : Machine) (r : Resumed) : Type 0 where
   one : m.members ≡ processor ∷ []
   resumed : resumed_of processor ≡ r
 
-one_by : (x : Member) (m : Machine) (a : ℕ) (l : Label) → IsOne (effect (with_member_only x m) a l) (resumed_by 0 a l (resumed_of x))
-one_by x m zero label.Enter = record { processor = _; one = refl; resumed = refl }
-one_by x m (suc a) label.Enter = let n : suc a ≢ 0 = omega arith in simp (ne_eqb (suc a) 0 n) (record { processor = x; one = refl; resumed = refl })
-one_by x m zero (label.Resume how) = record { processor = _; one = refl; resumed = refl }
-one_by x m (suc a) (label.Resume how) = let n : suc a ≢ 0 = omega arith in simp (ne_eqb (suc a) 0 n) (record { processor = x; one = refl; resumed = refl })
-one_by x m a (label.Write zero register width value status) = record { processor = _; one = refl; resumed = refl }
-one_by x m a (label.Write (suc c) register width value status) = let n : suc c ≢ 0 = omega arith in simp (ne_eqb (suc c) 0 n) (record { processor = x; one = refl; resumed = refl })
-one_by x m zero _ = record { processor = _; one = refl; resumed = refl }
-one_by x m (suc a) _ = record { processor = _; one = refl; resumed = refl }
+one_by : (p : Platform) (x : Member) (m : Machine) (a : ℕ) (l : Label) → IsOne (effect p (with_member_only x m) a l) (resumed_by p 0 a l (resumed_of x))
+one_by p x m zero label.Enter = record { processor = _; one = refl; resumed = refl }
+one_by p x m (suc a) label.Enter = let n : suc a ≢ 0 = omega arith in simp (ne_eqb (suc a) 0 n) (record { processor = x; one = refl; resumed = refl })
+one_by p x m zero (label.Resume how) = record { processor = _; one = refl; resumed = refl }
+one_by p x m (suc a) (label.Resume how) = let n : suc a ≢ 0 = omega arith in simp (ne_eqb (suc a) 0 n) (record { processor = x; one = refl; resumed = refl })
+one_by p x m a (label.Write zero register width value status) = record { processor = _; one = refl; resumed = refl }
+one_by p x m a (label.Write (suc c) register width value status) = let n : suc c ≢ 0 = omega arith in simp (ne_eqb (suc c) 0 n) (record { processor = x; one = refl; resumed = refl })
+one_by p x m zero _ = record { processor = _; one = refl; resumed = refl }
+one_by p x m (suc a) _ = record { processor = _; one = refl; resumed = refl }
 
-one_after : (es : List (ℕ × Label)) (m : Machine) (r : Resumed) → IsOne m r → IsOne (machine_after m es) (resumed_after 0 r es)
-one_after [] m r h = h
-one_after (e ∷ es) m r h =
-    let P : Machine → Type 0 = λ (n : Machine). IsOne (effect n e.0 e.1) (resumed_by 0 e.0 e.1 (resumed_of h.processor)) in
-    let Q : Resumed → Type 0 = λ (s : Resumed). IsOne (effect m e.0 e.1) (resumed_by 0 e.0 e.1 s) in
+one_after : (p : Platform) (es : List (ℕ × Label)) (m : Machine) (r : Resumed) → IsOne m r → IsOne (machine_after p m es) (resumed_after p 0 r es)
+one_after p [] m r h = h
+one_after p (e ∷ es) m r h =
+    let P : Machine → Type 0 = λ (n : Machine). IsOne (effect p n e.0 e.1) (resumed_by p 0 e.0 e.1 (resumed_of h.processor)) in
+    let Q : Resumed → Type 0 = λ (s : Resumed). IsOne (effect p m e.0 e.1) (resumed_by p 0 e.0 e.1 s) in
     let is : with_member_only h.processor m ≡ m = ap (λ (xs : List Member). record m { members = xs }) (sym h.one) in
-    one_after es (effect m e.0 e.1) (resumed_by 0 e.0 e.1 r) (subst Q h.resumed (subst P is (one_by h.processor m e.0 e.1)))
+    one_after p es (effect p m e.0 e.1) (resumed_by p 0 e.0 e.1 r) (subst Q h.resumed (subst P is (one_by p h.processor m e.0 e.1)))
 
 -- the machine's last resumed image of the one processor, from the labels
-pub resumed_is_last : (m : ImageContents) (es : List (ℕ × Label)) → resumed_image 0 m es ≡ (member (machine_after (beginning (m ∷ [])) es) 0).last
-resumed_is_last m es =
-    let start : Resumed = record { registers = loaded m; image = m; last = m } in
-    let h : IsOne (machine_after (beginning (m ∷ [])) es) (resumed_after 0 start es) = one_after es (beginning (m ∷ [])) start (record { processor = first_member m; one = refl; resumed = refl }) in
-    let a : resumed_image 0 m es ≡ h.processor.last = ap (λ (r : Resumed). r.last) (sym h.resumed) in
-    let P : List Member → Type 0 = λ (xs : List Member). resumed_image 0 m es ≡ (member (record (machine_after (beginning (m ∷ [])) es) { members = xs }) 0).last in
+pub resumed_is_last : (p : Platform) (m : ImageContents) (es : List (ℕ × Label)) → resumed_image p 0 m es ≡ (member (machine_after p (beginning (m ∷ [])) es) 0).last
+resumed_is_last p m es =
+    let start : Resumed = record { visits = 0; registers = loaded m; image = m; last = m } in
+    let h : IsOne (machine_after p (beginning (m ∷ [])) es) (resumed_after p 0 start es) = one_after p es (beginning (m ∷ [])) start (record { processor = first_member m; one = refl; resumed = refl }) in
+    let a : resumed_image p 0 m es ≡ h.processor.last = ap (λ (r : Resumed). r.last) (sym h.resumed) in
+    let P : List Member → Type 0 = λ (xs : List Member). resumed_image p 0 m es ≡ (member (record (machine_after p (beginning (m ∷ [])) es) { members = xs }) 0).last in
     subst P (sym h.one) a

@@ -10,7 +10,7 @@ use Rattle.rendezvous_core.specs.Platform.{Platform, Handler, wave_at, manage_in
 use Rattle.rendezvous_core.specs.Answer.{answer_of}
 use Rattle.rendezvous_core.specs.declared.serving.ServingStep.{ServingStep}
 use Rattle.rendezvous_core.specs.declared.serving.ServingStep.TheVariants.{Say, Do}
-use Rattle.rendezvous_core.specs.Serving.{Rest, Part, Exactly, InUnit, FitsWrite, Writing, Operations, Calling, Calls, Walk, Entries, same_kind, ends_walk, by_test, IsWholeServing, IsServingPrefix, unit_steps, operation_steps, step_test, call_steps, entry_steps, serving_steps}
+use Rattle.rendezvous_core.specs.Serving.{Rest, Part, Exactly, InUnit, FitsWrite, Writing, Operations, Calling, Calls, Walk, Entries, is_listed, ends_walk, by_test, IsWholeServing, IsServingPrefix, unit_steps, operation_steps, step_test, call_steps, entry_steps, serving_steps}
 
 -- the label is one that the step says
 abbrev pub Says : ServingStep → Label → Type 0
@@ -93,7 +93,7 @@ calls kind h (x ∷ xs) ks K each n ls t =
     let called : Leads (λ left. Say (label.Call h) ∷ operation_steps x.ops left returning) (Calling h x After) =
     λ left ms u. exactly (label.Call h) (operation_steps x.ops left returning) (Operations x.ops Returned) left
     (operations x.ops returning Returned (λ further es v. exactly (label.Return h x.answer) (after further) After further (returned further) es v) left) ms u in
-    chosen (same_kind x.kind kind) (λ m. unit_steps m (λ left. Say (label.Call h) ∷ operation_steps x.ops left returning)) (λ m. call_steps kind (h + 1) xs m ks)
+    chosen (is_listed x.kind kind) (λ m. unit_steps m (λ left. Say (label.Call h) ∷ operation_steps x.ops left returning)) (λ m. call_steps kind (h + 1) xs m ks)
     (InUnit (Calling h x) After) (Calls kind (h + 1) xs K)
     (unit (Calling h x) After (λ left. Say (label.Call h) ∷ operation_steps x.ops left returning) called)
     (calls kind (h + 1) xs ks K each) n ls t
@@ -154,7 +154,7 @@ calls_of_walk kind h (x ∷ xs) ks each n =
     let after : ℕ → List ServingStep = λ left. step_test (ends_walk kind x.answer) (ks (x.answer ∷ []) left) (call_steps kind (h + 1) xs left (λ statuses. ks (x.answer ∷ statuses))) in
     let after_of : (left : ℕ) → AllOfWalk (after left) = λ left. test_of_walk (ends_walk kind x.answer) (ks (x.answer ∷ []) left) (call_steps kind (h + 1) xs left (λ statuses. ks (x.answer ∷ statuses))) (each (x.answer ∷ []) left) (calls_of_walk kind (h + 1) xs (λ statuses. ks (x.answer ∷ statuses)) (λ statuses. each (x.answer ∷ statuses)) left) in
     let returning : ℕ → List ServingStep = λ left. Say (label.Return h x.answer) ∷ after left in
-    test_of_walk (same_kind x.kind kind) (unit_steps n (λ left. Say (label.Call h) ∷ operation_steps x.ops left returning)) (call_steps kind (h + 1) xs n ks)
+    test_of_walk (is_listed x.kind kind) (unit_steps n (λ left. Say (label.Call h) ∷ operation_steps x.ops left returning)) (call_steps kind (h + 1) xs n ks)
     (unit_of_walk (λ left. Say (label.Call h) ∷ operation_steps x.ops left returning) (λ left. (tt, operations_of_walk x.ops returning (λ further. (tt, after_of further)) left)) n)
     (calls_of_walk kind (h + 1) xs ks each n)
 

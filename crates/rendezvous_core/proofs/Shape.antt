@@ -285,7 +285,7 @@ pub record IsFine (p : Platform) (w : World) (m : Machine) : Type 0 where
 
 -- a step keeps that, and its label is one that the machine allows
 abbrev pub KeptBy : Platform → Machine → ℕ → Stepped → World → Type 0
-KeptBy p m i (stepped.Event e) w = (e.actor ≡ i) × Rule p m i e.label × IsFine p w (effect m i e.label)
+KeptBy p m i (stepped.Event e) w = (e.actor ≡ i) × Rule p m i e.label × IsFine p w (effect p m i e.label)
 KeptBy p m i (stepped.Waiting found) w = IsFine p w m
 KeptBy p m i stepped.Off w = IsFine p w m
 

@@ -1,8 +1,17 @@
--- What a chair has still to do: the steps of the wave that it serves, less those that were taken.
-use Rattle.std.specs.Prelude.{ℕ, Option, drop}
-use Rattle.rendezvous_core.specs.Platform.{the_platform}
+-- What a chair has still to do on a platform.
+use Rattle.std.specs.Prelude.{[], Option, drop}
+use Rattle.std.specs.Option.{option_map}
+use Rattle.rendezvous_core.specs.declared.chair.Chair.{Chair as Place}
+use Rattle.rendezvous_core.specs.declared.chair.Chair.TheVariants as place
+use Rattle.rendezvous_core.specs.Platform.{Platform}
 use Rattle.rendezvous_core.specs.Protocol.{Chair}
-use Rattle.rendezvous_core.specs.Serving.{serving_steps}
+use Rattle.rendezvous_core.specs.Serving.{serving_steps, later_steps}
 
-abbrev pub chair_of : Option ℕ → ℕ → ℕ → Chair
-chair_of value wave taken = record { steps = drop taken (serving_steps (the_platform value) wave) }
+abbrev pub chair_in : Platform → Place → Chair
+chair_in p place.Idle = record { steps = [] }
+chair_in p (place.Begin wave) = record { steps = serving_steps p wave }
+chair_in p (place.Serve taken) = record { steps = drop taken (later_steps p 1) }
+
+-- the chair that an actor or a word has, if it has it
+abbrev pub held_in : Platform → Option Place → Option Chair
+held_in p held = option_map (chair_in p) held

@@ -1,5 +1,6 @@
 pub mod Answer
 pub mod ChairInside
+pub mod CourseInside
 pub mod Machine
 pub mod Platform
 pub mod Protocol
@@ -7,6 +8,8 @@ pub mod SeatInside
 pub mod Service
 pub mod Serving
 pub mod ServingInside
+pub mod Setups
+pub mod Stand
 pub mod WordMap
 pub mod WorldInside
 pub mod Worlds

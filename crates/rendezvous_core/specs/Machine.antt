@@ -16,7 +16,7 @@ use Rattle.sync_words.specs.declared.label.Label.TheVariants as label
 use Rattle.rendezvous_core.specs.declared.phase.Phase.{Phase}
 use Rattle.rendezvous_core.specs.declared.phase.Phase.TheVariants.{Out, In, Counted, Here, Gone, Off}
 use Rattle.rendezvous_core.specs.declared.serving.Operation.{Operation}
-use Rattle.rendezvous_core.specs.Platform.{Platform, wave_at, blocked_in, no_cause}
+use Rattle.rendezvous_core.specs.Platform.{Platform, wave_at, blocked_in, cause_of}
 use Rattle.rendezvous_core.specs.Service.{write_status, image_on}
 use Rattle.rendezvous_core.specs.Serving.{IsWholeServing, IsServingPrefix}
 
@@ -185,45 +185,45 @@ saying l s = record s { serving = option_map (λ said. said ++ l ∷ []) s.servi
 abbrev pub with_write : Machine → Operation → Status → Machine
 with_write m o status = with_member m o.cpu (record (member m o.cpu) { image = image_on status (member m o.cpu).image o })
 
--- what a label changes
-abbrev pub effect : Machine → ℕ → Label → Machine
-effect m i (label.Excepted e) = record m { excepted = m.excepted + 1; last_excepted = e }
-effect m i (label.Wave w) = record m { waves = w; source = w }
-effect m i label.Enter =
-    with_member m i (record (member m i) { phase = In; visits = (member m i).visits + 1; image = saved (member m i).registers no_cause (member m i).image })
-effect m i label.Turn = with_phase m i Gone
-effect m i label.Arrive = with_phase m i Counted
-effect m i label.Late = with_phase m i Gone
-effect m i label.Elect = record m { members = map fresh m.members; session = Some (opened i) }
-effect m i (label.Served w) = record (with_session m (λ s. record s { served = Some w })) { source = 0 }
-effect m i (label.Gather e) = with_session m (λ s. record s { gathered = Some e })
-effect m i (label.Ready n) = with_session m (λ s. record s { is_ready = true })
-effect m i (label.Expire k) = with_session m (λ s. record s { expired = k })
-effect m i (label.Close n) = record (with_session m (λ s. record s { is_closed = true })) { members = map enclosed m.members }
-effect m i (label.Begin w) = with_session m (λ s. record s { serving = Some (label.Begin w ∷ []) })
-effect m i (label.Manage kind) = with_session m (saying (label.Manage kind))
-effect m i (label.Answer status) = with_session m (saying (label.Answer status))
-effect m i (label.Call h) = with_session m (saying (label.Call h))
-effect m i (label.Return h status) = with_session m (saying (label.Return h status))
-effect m i (label.Write c register width value status) =
+-- What a label changes. Entering saves the registers with the cause of the visit that begins.
+abbrev pub effect : Platform → Machine → ℕ → Label → Machine
+effect p m i (label.Excepted e) = record m { excepted = m.excepted + 1; last_excepted = e }
+effect p m i (label.Wave w) = record m { waves = w; source = w }
+effect p m i label.Enter =
+    with_member m i (record (member m i) { phase = In; visits = (member m i).visits + 1; image = saved (member m i).registers (cause_of p i ((member m i).visits + 1)) (member m i).image })
+effect p m i label.Turn = with_phase m i Gone
+effect p m i label.Arrive = with_phase m i Counted
+effect p m i label.Late = with_phase m i Gone
+effect p m i label.Elect = record m { members = map fresh m.members; session = Some (opened i) }
+effect p m i (label.Served w) = record (with_session m (λ s. record s { served = Some w })) { source = 0 }
+effect p m i (label.Gather e) = with_session m (λ s. record s { gathered = Some e })
+effect p m i (label.Ready n) = with_session m (λ s. record s { is_ready = true })
+effect p m i (label.Expire k) = with_session m (λ s. record s { expired = k })
+effect p m i (label.Close n) = record (with_session m (λ s. record s { is_closed = true })) { members = map enclosed m.members }
+effect p m i (label.Begin w) = with_session m (λ s. record s { serving = Some (label.Begin w ∷ []) })
+effect p m i (label.Manage kind) = with_session m (saying (label.Manage kind))
+effect p m i (label.Answer status) = with_session m (saying (label.Answer status))
+effect p m i (label.Call h) = with_session m (saying (label.Call h))
+effect p m i (label.Return h status) = with_session m (saying (label.Return h status))
+effect p m i (label.Write c register width value status) =
     with_session (with_write m (operation c register width value) status) (saying (label.Write c register width value status))
-effect m i label.Spent = with_session m (saying label.Spent)
-effect m i label.Done = with_session m (λ s. record s { is_done = true })
-effect m i label.End = record (with_phase m i Gone) { session = None }
-effect m i (label.Resume how) =
+effect p m i label.Spent = with_session m (saying label.Spent)
+effect p m i label.Done = with_session m (λ s. record s { is_done = true })
+effect p m i label.End = record (with_phase m i Gone) { session = None }
+effect p m i (label.Resume how) =
     with_member m i (record (member m i) { phase = Out; registers = loaded (member m i).image; last = (member m i).image })
-effect m i label.Off = with_phase m i Off
-effect m i _ = m
+effect p m i label.Off = with_phase m i Off
+effect p m i _ = m
 
 -- each label's rule holds in the state that the labels before it leave
 abbrev pub IsRun : Platform → Machine → List (ℕ × Label) → Type 0
 IsRun p m [] = Unit {0}
-IsRun p m (e ∷ es) = Rule p m e.0 e.1 × IsRun p (effect m e.0 e.1) es
+IsRun p m (e ∷ es) = Rule p m e.0 e.1 × IsRun p (effect p m e.0 e.1) es
 
 -- the machine after the labels
-abbrev pub machine_after : Machine → List (ℕ × Label) → Machine
-machine_after m [] = m
-machine_after m (e ∷ es) = machine_after (effect m e.0 e.1) es
+abbrev pub machine_after : Platform → Machine → List (ℕ × Label) → Machine
+machine_after p m [] = m
+machine_after p m (e ∷ es) = machine_after p (effect p m e.0 e.1) es
 
 -- at the start every processor is Out with its image and the registers that this holds, and there is no session
 abbrev pub first_member : ImageContents → Member
@@ -233,9 +233,11 @@ abbrev pub beginning : List ImageContents → Machine
 beginning images =
     record { members = map first_member images; waves = 0; excepted = 0; last_excepted = 0; source = 0; session = None }
 
--- The image that processor i last resumed from, from the labels alone: entering saves the registers into the image, a
--- write with SUCCESS that names i changes it, and resuming hands it on and loads the registers from it.
+-- The image that processor i last resumed from, from the labels and the platform's causes alone: entering saves the
+-- registers with the cause of the visit into the image, a write with SUCCESS that names i changes it, and resuming hands
+-- it on and loads the registers from it.
 pub record Resumed : Type 0 where
+  pub visits : ℕ  -- how often it has entered
   pub registers : Registers
   pub image : ImageContents
   pub last : ImageContents
@@ -243,18 +245,21 @@ pub record Resumed : Type 0 where
 abbrev pub resumed_write : ℕ → Operation → Status → Resumed → Resumed
 resumed_write i o status x = if o.cpu == i then record x { image = image_on status x.image o } else x
 
-abbrev pub resumed_own : Label → Bool → Resumed → Resumed
-resumed_own label.Enter is_own x = if is_own then record x { image = saved x.registers no_cause x.image } else x
-resumed_own (label.Resume how) is_own x = if is_own then record x { registers = loaded x.image; last = x.image } else x
-resumed_own _ is_own x = x
+abbrev pub resumed_entry : Platform → ℕ → Resumed → Resumed
+resumed_entry p i x = record x { visits = x.visits + 1; image = saved x.registers (cause_of p i (x.visits + 1)) x.image }
 
-abbrev pub resumed_by : ℕ → ℕ → Label → Resumed → Resumed
-resumed_by i actor (label.Write c register width value status) x = resumed_write i (operation c register width value) status x
-resumed_by i actor l x = resumed_own l (actor == i) x
+abbrev pub resumed_own : Platform → ℕ → Label → Bool → Resumed → Resumed
+resumed_own p i label.Enter is_own x = if is_own then resumed_entry p i x else x
+resumed_own p i (label.Resume how) is_own x = if is_own then record x { registers = loaded x.image; last = x.image } else x
+resumed_own p i _ is_own x = x
 
-abbrev pub resumed_after : ℕ → Resumed → List (ℕ × Label) → Resumed
-resumed_after i x [] = x
-resumed_after i x (e ∷ es) = resumed_after i (resumed_by i e.0 e.1 x) es
+abbrev pub resumed_by : Platform → ℕ → ℕ → Label → Resumed → Resumed
+resumed_by p i actor (label.Write c register width value status) x = resumed_write i (operation c register width value) status x
+resumed_by p i actor l x = resumed_own p i l (actor == i) x
 
-abbrev pub resumed_image : ℕ → ImageContents → List (ℕ × Label) → ImageContents
-resumed_image i m es = (resumed_after i (record { registers = loaded m; image = m; last = m }) es).last
+abbrev pub resumed_after : Platform → ℕ → Resumed → List (ℕ × Label) → Resumed
+resumed_after p i x [] = x
+resumed_after p i x (e ∷ es) = resumed_after p i (resumed_by p i e.0 e.1 x) es
+
+abbrev pub resumed_image : Platform → ℕ → ImageContents → List (ℕ × Label) → ImageContents
+resumed_image p i m es = (resumed_after p i (record { visits = 0; registers = loaded m; image = m; last = m }) es).last

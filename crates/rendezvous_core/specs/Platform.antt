@@ -1,24 +1,18 @@
 -- The platform: how many processors there are, what comes, and how long each part may take.
-use Rattle.std.specs.Prelude.{ℕ, zero, suc, Bool, true, false, List, [], ◌∷◌, Option, Some, None, slice_get, slice_index_or}
+use Rattle.std.specs.Prelude.{ℕ, zero, suc, ◌==◌, ◌&&◌, Bool, true, false, List, [], Option, Some, None, slice_get, slice_index_or, find}
 use Rattle.std.specs.List.{count_by}
 use Rattle.smm_base.specs.declared.kinds.Cause.{Cause}
 use Rattle.smm_base.specs.declared.kinds.HandlerType.{HandlerType}
-use Rattle.smm_base.specs.declared.kinds.HandlerType.TheVariants.{Root}
-use Rattle.rendezvous_core.specs.declared.serving.Operation.{Operation}
-use Rattle.smm_base.specs.declared.registers.Register.TheVariants.{Rax}
 use Rattle.smm_base.specs.declared.status.Status.{Status}
-use Rattle.smm_base.specs.declared.status.Status.TheVariants.{Success}
-use Rattle.rendezvous_core.specs.declared.phase.Arrival.{Arrival}
-use Rattle.rendezvous_core.specs.declared.phase.Arrival.TheVariants.{Prompt, Delayed, Blocked, Absent}
+use Rattle.cpu_table.specs.declared.setup.CauseAt.{CauseAt}
+use Rattle.cpu_table.specs.declared.waves.Arrival.{Arrival}
+use Rattle.cpu_table.specs.declared.waves.Arrival.TheVariants.{Prompt, Delayed, Blocked, Absent}
+use Rattle.cpu_table.specs.declared.waves.Wave.{Wave}
+use Rattle.rendezvous_core.specs.declared.serving.Operation.{Operation}
 
--- a wave: how each processor meets its interrupt, and the walks that its boot processor makes
-pub record Wave : Type 0 where
-  pub status : List Arrival
-  pub manage : List HandlerType
-
--- a handler: the list that it is registered on, what it answers, and its operations
+-- a handler: the list on which it is registered at the start, if it is, what it answers, and its operations
 pub record Handler : Type 0 where
-  pub kind : HandlerType
+  pub kind : Option HandlerType
   pub answer : Status
   pub ops : List Operation
 
@@ -30,7 +24,8 @@ pub record Platform : Type 0 where
   pub visits : ℕ  -- of each processor
   pub ops : ℕ  -- units of serving in one session
   pub waves : List Wave
-  pub handlers : List Handler  -- registered in this order
+  pub handlers : List Handler  -- in the order of the file, which is that of registration
+  pub causes : List CauseAt
 
 -- the wave with this number, counted from 1
 abbrev pub wave_at : Platform → ℕ → Option Wave
@@ -70,20 +65,19 @@ manage_in (Some w) = w.manage
 abbrev pub no_cause : Cause
 no_cause = record { halt = false; io = None }
 
+-- the entry is that of the processor's visit
+abbrev pub is_of_visit : ℕ → ℕ → CauseAt → Bool
+is_of_visit i visit entry = entry.cpu == i && entry.visit == visit
+
+abbrev pub cause_in : Option CauseAt → Cause
+cause_in None = no_cause
+cause_in (Some entry) = entry.cause
+
+-- the cause of a processor's visit, which is counted from 1: that in the first entry of the visit
+abbrev pub cause_of : Platform → ℕ → ℕ → Cause
+cause_of p i visit = cause_in (find (is_of_visit i visit) p.causes)
+
 -- a platform of one processor
-abbrev pub with_one : ℕ → ℕ → ℕ → ℕ → List Wave → List Handler → Platform
-with_one t1 t2 visits ops waves handlers =
-    record { processors = 1; t1 = t1; t2 = t2; visits = visits; ops = ops; waves = waves; handlers = handlers }
-
--- a root handler that writes this number to RAX
-abbrev pub rax_handler : ℕ → Handler
-rax_handler value =
-    record { kind = Root; answer = Success; ops = record { cpu = 0; register = Rax; width = 8; value = value } ∷ [] }
-
-abbrev pub handlers_for : Option ℕ → List Handler
-handlers_for None = []
-handlers_for (Some value) = rax_handler value ∷ []
-
--- the platforms that are built: one prompt processor, one wave, a walk over the root handlers, and one such handler or none
-abbrev pub the_platform : Option ℕ → Platform
-the_platform value = with_one 8 8 3 64 (record { status = Prompt ∷ []; manage = Root ∷ [] } ∷ []) (handlers_for value)
+abbrev pub with_one : ℕ → ℕ → ℕ → ℕ → List Wave → List Handler → List CauseAt → Platform
+with_one t1 t2 visits ops waves handlers causes =
+    record { processors = 1; t1 = t1; t2 = t2; visits = visits; ops = ops; waves = waves; handlers = handlers; causes = causes }

@@ -22,7 +22,8 @@ use Rattle.sync_words.specs.declared.label.Label.TheVariants as label
 use Rattle.sync_words.specs.declared.row.Row.{Row}
 use Rattle.sync_words.specs.declared.row.Row.TheVariants.{AwaitSmi, SwitchOff, LookAtSource, LookAtInside, CountIn, ClaimBsp, AwaitBsp, MarkInside, TakeSource, LookAtExcept, GatherFirst, GatherSecond, MarkInsync, LockCounter, Serve, LeaveInside, GiveBsp, LeaveInsync, UnlockCounter, AwaitSessionEnd, ClearSignal, AnnounceBlocked, AnnounceWave, RaiseWave, WatchSource, AwaitServed, RaiseOff}
 use Rattle.rendezvous_core.specs.declared.serving.Operation.{Operation}
-use Rattle.rendezvous_core.specs.Platform.{Platform, wave_at, blocked_in, signal_at, no_cause}
+use Rattle.smm_base.specs.declared.kinds.Cause.{Cause}
+use Rattle.rendezvous_core.specs.Platform.{Platform, wave_at, blocked_in, signal_at, cause_of}
 use Rattle.rendezvous_core.specs.Service.{write_status, image_on}
 use Rattle.rendezvous_core.specs.declared.serving.ServingStep.{ServingStep}
 use Rattle.rendezvous_core.specs.declared.serving.ServingStep.TheVariants.{Say, Do}
@@ -244,9 +245,9 @@ row_after p s AwaitServed found = Some (to_wave p (s.wave + 1))
 row_after p s (RaiseOff j) found = each_processor p RaiseOff (j + 1) None
 
 -- what the actor keeps of the number found
-abbrev pub visits_after : Seat → Row → ℕ → ℕ
-visits_after s AwaitSmi found = if found == 1 then s.visits + 1 else s.visits
-visits_after s _ found = s.visits
+abbrev pub visits_after : ℕ → Row → ℕ → ℕ
+visits_after was AwaitSmi found = if found == 1 then was + 1 else was
+visits_after was _ found = was
 
 abbrev pub source_after : ℕ → Row → ℕ → ℕ
 source_after was LookAtSource found = found
@@ -256,10 +257,10 @@ abbrev pub inside_after : ℕ → Row → ℕ → ℕ
 inside_after was LookAtInside found = found
 inside_after was _ found = was
 
-abbrev pub wave_after : Seat → Row → ℕ → ℕ
-wave_after s TakeSource found = found
-wave_after s AwaitServed found = s.wave + 1
-wave_after s _ found = s.wave
+abbrev pub wave_after : ℕ → Row → ℕ → ℕ
+wave_after was TakeSource found = found
+wave_after was AwaitServed found = was + 1
+wave_after was _ found = was
 
 abbrev pub blocked_after : ℕ → Row → ℕ → ℕ
 blocked_after was LookAtExcept found = found
@@ -290,28 +291,29 @@ taken_next me (Some x) c = record c { image = image_taken me x c.image }
 abbrev pub served_cpu : ℕ → Option Chair → Cpu → Cpu
 served_cpu me chair c = taken_next me (step_in chair) c
 
--- the processor as it enters, which saves its registers, and as it resumes, which loads them
-abbrev pub entered_cpu : Cpu → Cpu
-entered_cpu c = record c { image = saved c.registers no_cause c.image }
+-- the processor as it enters, which saves its registers with the cause of the visit, and as it resumes, which loads them
+abbrev pub entered_cpu : Cause → Cpu → Cpu
+entered_cpu cause c = record c { image = saved c.registers cause c.image }
 
 abbrev pub resumed_cpu : Cpu → Cpu
 resumed_cpu c = record c { registers = loaded c.image; last = c.image }
 
-abbrev pub cpu_after : ℕ → Option Chair → Option Cpu → Row → ℕ → Option Cpu
-cpu_after me chair cpu AwaitSmi found = if found == 1 then option_map entered_cpu cpu else cpu
-cpu_after me chair cpu Serve found = option_map (served_cpu me chair) cpu
-cpu_after me chair cpu ClearSignal found = option_map resumed_cpu cpu
-cpu_after me chair cpu _ found = cpu
+-- an actor that has made so many visits enters for the next
+abbrev pub cpu_after : Platform → ℕ → ℕ → Option Chair → Option Cpu → Row → ℕ → Option Cpu
+cpu_after p me visits chair cpu AwaitSmi found = if found == 1 then option_map (entered_cpu (cause_of p me (visits + 1))) cpu else cpu
+cpu_after p me visits chair cpu Serve found = option_map (served_cpu me chair) cpu
+cpu_after p me visits chair cpu ClearSignal found = option_map resumed_cpu cpu
+cpu_after p me visits chair cpu _ found = cpu
 
 abbrev pub seat_after : Platform → ℕ → Seat → Row → ℕ → Seat
 seat_after p me s r found =
     record {
       row = row_after p s r found;
-      visits = visits_after s r found;
+      visits = visits_after s.visits r found;
       source = source_after s.source r found;
       inside = inside_after s.inside r found;
-      wave = wave_after s r found;
+      wave = wave_after s.wave r found;
       blocked = blocked_after s.blocked r found;
       chair = chair_after p s.wave s.chair r;
-      cpu = cpu_after me s.chair s.cpu r found;
+      cpu = cpu_after p me s.visits s.chair s.cpu r found;
     }

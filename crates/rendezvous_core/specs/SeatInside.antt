@@ -1,31 +1,31 @@
--- What a seat keeps in numbers, on the platform that is built.
+-- What a seat keeps in numbers, on each platform that is built.
 use Rattle.std.specs.Prelude.{ℕ, ◌<◌, ◌≤◌, Option, Some, None}
 use Rattle.sync_words.specs.declared.access.TheConstants.{LOCKED}
 use Rattle.sync_words.specs.declared.row.Row.{Row}
 use Rattle.sync_words.specs.declared.row.Row.TheVariants.{AwaitSmi, SwitchOff, ClearSignal, GatherFirst, GatherSecond, AnnounceBlocked, AnnounceWave, RaiseWave, WatchSource, AwaitServed, RaiseOff}
-use Rattle.rendezvous_core.specs.Protocol.{Seat}
+use Rattle.rendezvous_core.specs.Stand.{Stand}
 use Rattle.rendezvous_core.specs.declared.seat.Seat.TheInside.{Inside}
 
-abbrev pub seat_of : Inside → Seat
-seat_of s =
+abbrev pub stand_of : Inside → Stand
+stand_of s =
     record { row = s.row; visits = s.visits; source = s.source; inside = s.inside; wave = s.wave; blocked = s.blocked; chair = s.chair; cpu = s.cpu }
 
 -- a row's loop is within its bounds; a processor that waits has a visit left, and the chipset's wave is one of the platform's
 abbrev pub IsRow : ℕ → ℕ → Option Row → Type 0
-IsRow visits wave (Some AwaitSmi) = visits < 3
-IsRow visits wave (Some (GatherFirst looks)) = looks < 8
-IsRow visits wave (Some (GatherSecond looks)) = looks < 8
+IsRow visits wave (Some AwaitSmi) = visits < 256
+IsRow visits wave (Some (GatherFirst looks)) = looks < 4096
+IsRow visits wave (Some (GatherSecond looks)) = looks < 4096
 IsRow visits wave (Some AnnounceBlocked) = wave ≤ 1
 IsRow visits wave (Some AnnounceWave) = wave ≤ 1
 IsRow visits wave (Some (RaiseWave j)) = (j < 1) × (wave ≤ 1)
-IsRow visits wave (Some (WatchSource looks)) = (looks < 16) × (wave ≤ 1)
+IsRow visits wave (Some (WatchSource looks)) = (looks < 8192) × (wave ≤ 1)
 IsRow visits wave (Some AwaitServed) = wave ≤ 1
 IsRow visits wave (Some (RaiseOff j)) = j < 1
 IsRow visits wave _ = Unit {0}
 
-pub record IsSeat (s : Seat) : Type 0 where
+pub record IsSeat (s : Stand) : Type 0 where
   pub row : IsRow s.visits s.wave s.row
-  pub visits : s.visits ≤ 3
+  pub visits : s.visits ≤ 256
   pub source : s.source ≤ LOCKED
   pub inside : s.inside ≤ LOCKED
   pub wave : s.wave ≤ LOCKED

@@ -2,7 +2,7 @@
 --
 -- A part of the list is told by what may follow it: `P k n es` says that the list es, with n units left, begins with
 -- P and goes on from there as k says.
-use Rattle.std.specs.Prelude.{ℕ, zero, suc, ◌+◌, ◌≡◌, ◌==◌, Bool, true, false, List, [], ◌∷◌, ◌++◌}
+use Rattle.std.specs.Prelude.{ℕ, zero, suc, ◌+◌, ◌≡◌, ◌==◌, Bool, true, false, List, [], ◌∷◌, ◌++◌, Option, Some, None}
 use Rattle.smm_base.specs.declared.kinds.HandlerType.{HandlerType}
 use Rattle.smm_base.specs.declared.kinds.HandlerType.TheVariants.{Root, Typed}
 use Rattle.smm_base.specs.declared.status.Status.{Status}
@@ -62,6 +62,11 @@ same_kind Root (Typed b) = false
 same_kind (Typed a) Root = false
 same_kind (Typed a) (Typed b) = a == b
 
+-- is a handler that is registered so on the list? One that isn't registered is on none
+abbrev pub is_listed : Option HandlerType → HandlerType → Bool
+is_listed None list = false
+is_listed (Some kind) list = same_kind kind list
+
 -- does a walk stop at the status? Only one over the list of a GUID does
 abbrev pub ends_walk : HandlerType → Status → Bool
 ends_walk Root x = false
@@ -76,7 +81,7 @@ by_test false p q = q
 abbrev pub Calls : HandlerType → ℕ → List Handler → (List Status → Rest) → Rest
 Calls kind h [] k = k []
 Calls kind h (x ∷ xs) k =
-    by_test (same_kind x.kind kind)
+    by_test (is_listed x.kind kind)
     (InUnit (Calling h x) (by_test (ends_walk kind x.answer) (k (x.answer ∷ [])) (Calls kind (h + 1) xs (λ later. k (x.answer ∷ later)))))
     (Calls kind (h + 1) xs k)
 
@@ -118,7 +123,7 @@ step_test false p q = q
 abbrev pub call_steps : HandlerType → ℕ → List Handler → ℕ → (List Status → ℕ → List ServingStep) → List ServingStep
 call_steps kind h [] n k = k [] n
 call_steps kind h (x ∷ xs) n k =
-    step_test (same_kind x.kind kind)
+    step_test (is_listed x.kind kind)
     (unit_steps n (λ left.
     Say (label.Call h)
     ∷ operation_steps x.ops left (λ later.
@@ -133,6 +138,10 @@ entry_steps handlers (kind ∷ kinds) n =
     Say (label.Manage kind)
     ∷ call_steps kind 0 handlers left (λ statuses later. Say (label.Answer (answer_of kind statuses)) ∷ entry_steps handlers kinds later))
 
+-- the steps of a session that serves the wave w, behind the first
+abbrev pub later_steps : Platform → ℕ → List ServingStep
+later_steps p w = entry_steps p.handlers (manage_in (wave_at p w)) p.ops
+
 -- all steps of a session that serves the wave w
 abbrev pub serving_steps : Platform → ℕ → List ServingStep
-serving_steps p w = Say (label.Begin w) ∷ entry_steps p.handlers (manage_in (wave_at p w)) p.ops
+serving_steps p w = Say (label.Begin w) ∷ later_steps p w

@@ -1,7 +1,18 @@
--- How far the serving of the platform's wave goes.
-use Rattle.std.specs.Prelude.{ℕ, Option, Some, None}
+-- The steps of the serving behind the call of a platform's one handler.
+use Rattle.std.specs.Prelude.{ℕ, List, [], ◌∷◌}
+use Rattle.smm_base.specs.declared.kinds.HandlerType.TheVariants.{Root}
+use Rattle.smm_base.specs.declared.status.Status.{Status}
+use Rattle.sync_words.specs.declared.label.Label.TheVariants as label
+use Rattle.rendezvous_core.specs.declared.serving.Operation.{Operation}
+use Rattle.rendezvous_core.specs.declared.serving.ServingStep.{ServingStep}
+use Rattle.rendezvous_core.specs.declared.serving.ServingStep.TheVariants.{Say}
+use Rattle.rendezvous_core.specs.Answer.{answer_of}
+use Rattle.rendezvous_core.specs.Serving.{operation_steps}
 
--- how many steps stand before the last: begin and manage, or with a handler also call, write and return
-abbrev pub last_step : Option ℕ → ℕ
-last_step None = 2
-last_step (Some value) = 5
+-- it returns, and the walk has its answer
+abbrev pub return_steps : Status → List ServingStep
+return_steps answer = Say (label.Return 0 answer) ∷ Say (label.Answer (answer_of Root (answer ∷ []))) ∷ []
+
+-- the handler's operations, with so many units left, and its return
+abbrev pub called_steps : List Operation → Status → ℕ → List ServingStep
+called_steps operations answer left = operation_steps operations left (λ _. return_steps answer)

@@ -1,15 +1,23 @@
 -- What a world of one processor keeps.
-use Rattle.std.specs.Prelude.{◌≤◌, [], ◌∷◌, vec_capacity, IsSome}
+use Rattle.std.specs.Prelude.{◌≡◌, ◌≤◌, [], ◌∷◌, vec_capacity, IsSome}
+use Rattle.rendezvous_core.specs.ChairInside.{held_in}
 use Rattle.rendezvous_core.specs.SeatInside.{IsChipsetRow}
+use Rattle.rendezvous_core.specs.Stand.{seat_in}
 use Rattle.rendezvous_core.specs.Worlds.{Replay}
 use Rattle.rendezvous_core.specs.declared.world.World.TheInside.{Inside}
 
 abbrev pub replay_of : Inside → Replay
 replay_of w =
-    record { value = w.value; world = record { words = w.words; chair = w.lying; seats = w.processor ∷ w.chipset ∷ [] }; events = w.events.items; room = w.room }
+    record {
+      platform = w.course;
+      world = record { words = w.words; chair = held_in w.course w.lying; seats = seat_in w.course w.processor ∷ seat_in w.course w.chipset ∷ [] };
+      events = w.events.items;
+      room = w.room;
+    }
 
--- there is memory for the events, and the processor has its image
+-- there is one processor, which has its image, and memory for the events
 pub record IsWorld (w : Inside) : Type 0 where
+  pub one : w.course.processors ≡ 1
   pub processor : IsSome w.processor.cpu
   pub chipset : IsChipsetRow w.chipset.row
   pub room : w.room ≤ vec_capacity w.events

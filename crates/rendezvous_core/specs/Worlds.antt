@@ -174,9 +174,9 @@ start p images =
       seats = map (λ m. first_seat AwaitSmi 0 (Some (first_cpu m))) images ++ first_seat AnnounceBlocked 1 None ∷ [];
     }
 
--- a replay as far as it has come, by the number that the platform's handler writes, with room for so many events
+-- a replay on a platform as far as it has come, with room for so many events
 pub record Replay : Type 0 where
-  pub value : Option ℕ
+  pub platform : Platform
   pub world : World
   pub events : List Event
   pub room : ℕ

@@ -1,82 +1,81 @@
-ghost use Rattle.std.specs.Prelude.{◌≡◌, [], slice_get};
-ghost use Rattle.rendezvous_core.specs.Platform.{the_platform};
-ghost use Rattle.rendezvous_core.specs.ServingInside.{last_step};
-ghost use Rattle.rendezvous_core.specs.Protocol.{begun, one_taken, row_by_rest};
+ghost use Rattle.std.specs.Prelude.{◌≡◌, drop, length, nat_lt, slice_get};
+ghost use Rattle.rendezvous_core.specs.ChairInside.{chair_in};
+ghost use Rattle.rendezvous_core.specs.Protocol.{one_taken, row_by_rest};
+ghost use Rattle.rendezvous_core.specs.Serving.{later_steps};
 
-use crate::serving::{Operation, ServingStep};
-use std::marker::Model;
-use sync_words::{HandlerType, Label, Register, Row, Status};
+use crate::course::Course;
+use crate::serving::ServingStep;
+use sync_words::{Label, Row};
 
-/// The chair of the boot processor: the number that the platform's handler writes, if it has one,
-/// the wave that is served, and how many steps of that were taken.
-#[derive(Drop)]
-pub struct Chair {
-    value: Option<u64>,
-    wave: u32,
-    taken: u8,
+/// The chair of the boot processor: how far the serving has come. What is left to do follows from
+/// this on a course.
+#[derive(Clone, Copy, Debug, PartialEq, Eq)]
+pub enum Chair {
+    /// There is nothing to do.
+    Idle,
+    /// The serving of a wave, by its number, is to begin.
+    Begin(u32),
+    /// The serving of the platform's wave goes on: how many steps behind the first were taken.
+    Serve(usize),
 }
 
-impl Model for Chair {
-    ghost use Rattle.rendezvous_core.specs.Protocol.{Chair};
+/// The chair behind the first step of a wave.
+fn behind_first(course: &Course, wave: u32) -> Chair
+    ensures { (chair_in course.now result).steps ≡ later_steps course.now wave }
+{
+    if course.serves(wave) {
+        Chair::Serve(0)
+    } else {
+        Chair::Idle
+    }
+}
 
-    ghost Value = { Chair };
+/// The chair behind one step more.
+fn behind_next(course: &Course, taken: usize) -> Chair
+    ensures { (chair_in course.now result).steps ≡ drop 1 (drop taken (later_steps course.now 1)) }
+{
+    if course.left(taken) > 0 {
+        Chair::Serve(taken + 1)
+    } else {
+        Chair::Idle
+    }
+}
 
-    ghost use Rattle.rendezvous_core.specs.ChairInside.{chair_of};
-    ghost use Rattle.std.specs.Prelude.{◌≤◌};
-
-    ghost view = { λ c. chair_of c.value c.wave c.taken };
-
-    ghost invariant = { λ c. c.taken ≤ 6 };
+/// Is there a step behind the first of a wave?
+fn has_later(course: &Course, wave: u32) -> bool
+    ensures { result ≡ nat_lt 0 (length (later_steps course.now wave)) }
+{
+    course.serves(wave) && course.left(0) > 0
 }
 
 impl Chair {
-    /// A chair with nothing to do.
-    pub fn idle() -> Self
-        ensures { result.steps ≡ [] }
-    {
-        Chair {
-            value: None,
-            wave: 0,
-            taken: 6,
-        }
-    }
-
-    /// The serving of a wave begins.
-    pub fn begin(value: Option<u64>, wave: u32) -> Self
-        ensures { result ≡ begun (the_platform value) wave }
-    {
-        Chair {
-            value,
-            wave,
-            taken: 0,
-        }
-    }
-
     /// The next step, or `None` where none is left.
-    pub fn next_step(&self) -> Option<ServingStep>
-        ensures { result ≡ slice_get self.now.steps 0 }
+    pub fn next_step(self, course: &Course) -> Option<ServingStep>
+        ensures { result ≡ slice_get (chair_in course.now self).steps 0 }
     {
-        let label = match (self.wave, self.taken, self.value) {
-            (wave, 0, _) => Label::Begin(wave),
-            (1, 1, _) => Label::Manage(HandlerType::Root),
-            (1, 2, None) => Label::Answer(Status::NotFound),
-            (1, 2, Some(_)) => Label::Call(0),
-            (1, 3, Some(value)) => return Some(ServingStep::Do(rax_write(value))),
-            (1, 4, Some(_)) => Label::Return {
-                handler: 0,
-                status: Status::Success,
-            },
-            (1, 5, Some(_)) => Label::Answer(Status::Success),
-            _ => return None,
-        };
-        Some(ServingStep::Say(label))
+        match self {
+            Chair::Idle => None,
+            Chair::Begin(wave) => Some(ServingStep::Say(Label::Begin(wave))),
+            Chair::Serve(taken) => course.step(taken),
+        }
+    }
+
+    /// Is there a step behind the next?
+    fn goes_on(self, course: &Course) -> bool
+        ensures { result ≡ nat_lt 1 (length (chair_in course.now self).steps) }
+    {
+        match self {
+            Chair::Idle => false,
+            Chair::Begin(wave) => has_later(course, wave),
+            Chair::Serve(taken) => course.left(taken) > 1,
+        }
     }
 
     /// The row behind the next step.
-    pub fn row(&self) -> Row
-        ensures { result ≡ row_by_rest self.now.steps }
+    pub fn row(self, course: &Course) -> Row
+        ensures { result ≡ row_by_rest (chair_in course.now self).steps }
     {
-        if self.wave == 1 && self.taken < last_step(self.value) {
+        if self.goes_on(course) {
             Row::Serve
         } else {
             Row::LeaveInside
@@ -84,35 +83,13 @@ impl Chair {
     }
 
     /// The chair after its next step was taken.
-    pub fn advance(self) -> Self
-        ensures { result ≡ one_taken self }
+    pub fn advance(self, course: &Course) -> Self
+        ensures { (chair_in course.now result).steps ≡ (one_taken (chair_in course.now self)).steps }
     {
-        Chair {
-            value: self.value,
-            wave: self.wave,
-            taken: if self.taken < 6 { self.taken + 1 } else { 6 },
+        match self {
+            Chair::Idle => Chair::Idle,
+            Chair::Begin(wave) => behind_first(course, wave),
+            Chair::Serve(taken) => behind_next(course, taken),
         }
-    }
-}
-
-/// How many steps stand before the last of the platform's wave.
-fn last_step(value: Option<u64>) -> u8
-    ensures { result ≡ last_step value }
-{
-    match value {
-        None => 2,
-        Some(_) => 5,
-    }
-}
-
-/// The handler's write of a number to RAX of processor 0.
-fn rax_write(value: u64) -> Operation
-    ensures { result ≡ record { cpu = 0; register = Register.Rax; width = 8; value = value } }
-{
-    Operation {
-        cpu: 0,
-        register: Register::Rax,
-        width: 8,
-        value,
     }
 }

@@ -1,7 +1,5 @@
 ghost use Rattle.std.specs.Prelude.{◌≡◌, take};
-ghost use Rattle.smm_base.specs.declared.kinds.MapKind.TheVariants.{Intel64};
 ghost use Rattle.cpu_regs.specs.Entering.{after};
-ghost use Rattle.rendezvous_core.specs.Platform.{no_cause};
 ghost use Rattle.rendezvous_core.specs.Protocol.{entered_cpu, resumed_cpu};
 ghost use Rattle.rendezvous_core.specs.Service.{write_status, image_on};
 ghost use Rattle.rendezvous_core.specs.Worlds.{first_cpu};
@@ -47,14 +45,10 @@ impl Cpu {
         }
     }
 
-    /// It enters: its registers are saved into its image.
-    pub fn enter(&mut self)
-        ensures { self.new ≡ entered_cpu self.old }
+    /// It enters: its registers are saved into its image, with the cause of the visit.
+    pub fn enter(&mut self, cause: Cause)
+        ensures { self.new ≡ entered_cpu cause self.old }
     {
-        let cause = Cause {
-            halt: false,
-            io: None,
-        };
         switch_laws();
         enter(&self.registers, &cause, &mut self.image);
     }

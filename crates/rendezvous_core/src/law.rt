@@ -1,25 +1,42 @@
-ghost use Rattle.std.specs.Prelude.{ℕ, ◌≡◌, ◌<◌, List, [], ◌∷◌, length, Some};
+ghost use Rattle.std.specs.Prelude.{ℕ, ◌≡◌, ◌<◌, List, [], ◌∷◌, length, IsTrue, Some};
 ghost use Rattle.save_state_map.specs.Images.{ImageContents};
 ghost use Rattle.sync_words.specs.declared.label.Label.{Label};
-ghost use Rattle.rendezvous_core.specs.Platform.{Wave, Handler, with_one};
+ghost use Rattle.cpu_table.specs.declared.setup.CauseAt.{CauseAt};
+ghost use Rattle.cpu_table.specs.Data.{SetupData};
+ghost use Rattle.cpu_table.specs.declared.waves.Wave.{Wave};
+ghost use Rattle.rendezvous_core.specs.Platform.{Platform, Handler, with_one};
+ghost use Rattle.rendezvous_core.specs.Setups.{platform_of, is_built, AreImagesOf};
 ghost use Rattle.rendezvous_core.specs.Worlds.{replay_events, replay_world, labels, last_image};
 ghost use Rattle.rendezvous_core.specs.Machine.{IsRun, beginning, machine_after, member, resumed_image};
 
-/// What holds of every schedule on each platform of one processor, whatever its polls, units, waves,
-/// arrivals, handlers and image.
+/// What holds of every schedule on each platform of one processor, whatever its polls, visits,
+/// units, waves, arrivals, handlers, causes and image.
 pub fn every_schedule()
     // The labels of the replay are a run of the rendezvous machine.
-    ensures run { (t1 t2 visits ops : ℕ) (waves : List Wave) (handlers : List Handler) (image : ImageContents) (schedule : List ℕ) →
+    ensures run { (t1 t2 visits ops : ℕ) (waves : List Wave) (handlers : List Handler) (causes : List CauseAt) (image : ImageContents) (schedule : List ℕ) →
         0 < visits → 0 < length waves →
-        let p = with_one t1 t2 visits ops waves handlers in
+        let p = with_one t1 t2 visits ops waves handlers causes in
         IsRun p (beginning (image ∷ [])) (labels (replay_events p (image ∷ []) schedule)) }
     // The image after is the machine's last resumed one.
-    ensures after { (t1 t2 visits ops : ℕ) (waves : List Wave) (handlers : List Handler) (image : ImageContents) (schedule : List ℕ) →
+    ensures after { (t1 t2 visits ops : ℕ) (waves : List Wave) (handlers : List Handler) (causes : List CauseAt) (image : ImageContents) (schedule : List ℕ) →
         0 < visits → 0 < length waves →
-        let p = with_one t1 t2 visits ops waves handlers in
+        let p = with_one t1 t2 visits ops waves handlers causes in
         last_image (replay_world p (image ∷ []) schedule) 0 ≡
-        Some (member (machine_after (beginning (image ∷ [])) (labels (replay_events p (image ∷ []) schedule))) 0).last }
-    // That is what entering saved, as the writes since then changed it.
-    ensures resumed { (image : ImageContents) (es : List (ℕ × Label)) →
-        resumed_image 0 image es ≡ (member (machine_after (beginning (image ∷ [])) es) 0).last }
+        Some (member (machine_after p (beginning (image ∷ [])) (labels (replay_events p (image ∷ []) schedule))) 0).last }
+    // That is what entering saved with the causes of the visits, as the writes since then changed it.
+    ensures resumed { (p : Platform) (image : ImageContents) (es : List (ℕ × Label)) →
+        resumed_image p 0 image es ≡ (member (machine_after p (beginning (image ∷ [])) es) 0).last }
+    // It is of the map of the processor's first image.
+    ensures kind { (p : Platform) (i : ℕ) (image : ImageContents) (es : List (ℕ × Label)) →
+        (resumed_image p i image es).kind ≡ image.kind }
+    // The same of the platform of each setup that is built.
+    ensures built_run { (setup : SetupData) (images : List ImageContents) (schedule : List ℕ) →
+        IsTrue (is_built setup) → 0 < setup.visits → AreImagesOf setup images →
+        let p = platform_of setup in
+        IsRun p (beginning images) (labels (replay_events p images schedule)) }
+    ensures built_after { (setup : SetupData) (images : List ImageContents) (schedule : List ℕ) →
+        IsTrue (is_built setup) → 0 < setup.visits → AreImagesOf setup images →
+        let p = platform_of setup in
+        last_image (replay_world p images schedule) 0 ≡
+        Some (member (machine_after p (beginning images) (labels (replay_events p images schedule))) 0).last }
 {}

@@ -14,13 +14,3 @@ pub enum Phase {
     /// It takes no more interrupts.
     Off,
 }
-
-/// How a processor meets the interrupt of a wave.
-#[derive(Clone, Copy, Debug, PartialEq, Eq)]
-pub enum Arrival {
-    Prompt,
-    /// It waits for an IPI.
-    Delayed,
-    Blocked,
-    Absent,
-}

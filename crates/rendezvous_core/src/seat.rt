@@ -1,29 +1,24 @@
-ghost use Rattle.std.specs.Prelude.{◌≡◌, ◌+◌, ◌==◌, ◌<◌, ◌≤◌, ℕ, nat_le, if◌then◌else◌, Option, Some, None, IsSome};
+ghost use Rattle.std.specs.Prelude.{◌≡◌, ◌+◌, ◌==◌, ◌<◌, ◌≤◌, nat_le, if◌then◌else◌, Option, Some, None, IsSome};
 ghost use Rattle.sync_words.specs.Access.{IsWithin};
-ghost use Rattle.rendezvous_core.specs.Platform.{the_platform, signal_at, wave_at};
-ghost use Rattle.rendezvous_core.specs.Worlds.{first_seat, last_of};
-ghost use Rattle.rendezvous_core.specs.Protocol.{word_of, access_of, hand_of, label_of, row_after, seat_after, look_label, look_row, to_await, next_said, serving_row, are_all_there, visits_after, source_after, inside_after, wave_after, blocked_after, chair_after, own_write_status, said_by, step_in, resumes_by, served_cpu, cpu_after, entered_cpu, resumed_cpu};
+ghost use Rattle.rendezvous_core.specs.Platform.{cause_of};
+ghost use Rattle.rendezvous_core.specs.Protocol.{word_of, access_of, hand_of, label_of, row_after, seat_after, look_label, look_row, to_await, to_wave, next_said, serving_row, are_all_there, visits_after, source_after, inside_after, wave_after, blocked_after, chair_after, own_write_status, said_by, step_in, resumes_by, served_cpu, cpu_after, entered_cpu, resumed_cpu};
 ghost use Rattle.std.specs.Option.{option_map};
+ghost use Rattle.rendezvous_core.specs.ChairInside.{held_in};
 ghost use Rattle.rendezvous_core.specs.SeatInside.{IsRow, IsRowOf, IsSeat};
+ghost use Rattle.rendezvous_core.specs.Stand.{seat_in};
 ghost use Rattle.rendezvous_core.specs.WordMap.{IsWordOf};
 
 use crate::chair::Chair;
+use crate::course::Course;
 use crate::cpu::Cpu;
 use crate::serving::{Operation, ServingStep};
 use save_state_map::Image;
+use smm_base::Cause;
 use std::marker::Model;
 use sync_words::{Access, After, Hand, LOCKED, Label, Row, Status, WordId};
 
-/// The processors of the platform that is built; the chipset has this number.
+/// The processors of each platform that is built; the chipset has this number.
 pub const PROCESSORS: u16 = 1;
-
-const FIRST_POLLS: u32 = 8;
-
-const SECOND_POLLS: u32 = 8;
-
-const VISITS: u32 = 3;
-
-const WAVES: u32 = 1;
 
 /// Where an actor stands, with what it has found so far and what it holds.
 #[derive(Drop)]
@@ -39,15 +34,15 @@ pub struct Seat {
 }
 
 impl Model for Seat {
-    ghost use Rattle.rendezvous_core.specs.Protocol.{Seat};
+    ghost use Rattle.rendezvous_core.specs.Stand.{Stand};
 
-    ghost Value = { Seat };
+    ghost Value = { Stand };
 
-    ghost use Rattle.rendezvous_core.specs.SeatInside.{seat_of, IsSeat};
+    ghost use Rattle.rendezvous_core.specs.SeatInside.{stand_of, IsSeat};
 
-    ghost view = { seat_of };
+    ghost view = { stand_of };
 
-    ghost invariant = { λ s. IsSeat (seat_of s) };
+    ghost invariant = { λ s. IsSeat (stand_of s) };
 }
 
 /// The word that the actor wants at a row.
@@ -73,12 +68,12 @@ pub fn word(me: u16, row: Row) -> WordId
 }
 
 /// What changes hands at a row, where the word changes.
-pub fn hand(row: Row) -> Hand
-    ensures { (v : Option ℕ) → result ≡ hand_of (the_platform v) row }
+pub fn hand(course: &Course, row: Row) -> Hand
+    ensures { result ≡ hand_of course.now row }
 {
     match row {
-        Row::ClaimBsp => Hand::Take(PROCESSORS),
-        Row::GiveBsp => Hand::Give(PROCESSORS),
+        Row::ClaimBsp => Hand::Take(course.processors()),
+        Row::GiveBsp => Hand::Give(course.processors()),
         _ => Hand::Nothing,
     }
 }
@@ -106,12 +101,12 @@ fn row_after_look(all_there: bool, last: bool, again: Row, after: Row) -> Row
 }
 
 /// The chair after the event at a row: serving begins behind the lock of the counter.
-fn next_chair(value: Option<u64>, chair: Option<Chair>, wave: u32, row: Row) -> Option<Chair>
-    ensures { result ≡ chair_after (the_platform value) wave chair row }
+fn next_chair(course: &Course, chair: Option<Chair>, wave: u32, row: Row) -> Option<Chair>
+    ensures { held_in course.now result ≡ chair_after course.now wave (held_in course.now chair) row }
 {
     match (chair, row) {
-        (Some(_), Row::LockCounter) => Some(Chair::begin(value, wave)),
-        (Some(chair), Row::Serve) => Some(chair.advance()),
+        (Some(_), Row::LockCounter) => Some(Chair::Begin(wave)),
+        (Some(chair), Row::Serve) => Some(chair.advance(course)),
         (chair, _) => chair,
     }
 }
@@ -121,7 +116,7 @@ impl Seat {
     pub fn new(row: Row, wave: u32, cpu: Option<Cpu>) -> Self
         requires row_in { IsRow 0 wave (Some row) }
         requires wave_in { wave ≤ LOCKED }
-        ensures { result ≡ first_seat row wave cpu }
+        ensures { result ≡ record { row = Some row; visits = 0; source = 0; inside = 0; wave = wave; blocked = 0; chair = None; cpu = cpu } }
     {
         Seat {
             row: Some(row),
@@ -159,9 +154,9 @@ impl Seat {
     }
 
     /// What the actor does to the word that it wants.
-    pub fn access(&self, me: u16, row: Row) -> Access
+    pub fn access(&self, course: &Course, me: u16, row: Row) -> Access
         requires me_in { me ≤ PROCESSORS }
-        ensures value { (v : Option ℕ) → result ≡ access_of (the_platform v) me self.now row }
+        ensures value { result ≡ access_of course.now me (seat_in course.now self.now) row }
         ensures fits { IsWithin result }
     {
         match row {
@@ -174,35 +169,24 @@ impl Seat {
             Row::ClaimBsp => Access::Claim(LOCKED, u32::from(me)),
             Row::MarkInside | Row::MarkInsync => Access::Put(1),
             Row::TakeSource | Row::LeaveInside | Row::LeaveInsync => Access::Put(0),
-            Row::UnlockCounter | Row::AnnounceBlocked => Access::Put(0),
+            Row::UnlockCounter => Access::Put(0),
+            Row::AnnounceBlocked => Access::Put(course.blocked(self.wave)),
             Row::LockCounter => Access::Lock,
             Row::GiveBsp => Access::Put(LOCKED),
             Row::AwaitSessionEnd | Row::AwaitServed => Access::Await(0, 0),
             Row::ClearSignal => Access::ClearSmi,
             Row::AnnounceWave => Access::Put(self.wave),
-            Row::RaiseWave(processor) => Access::Raise(self.signal(processor)),
+            Row::RaiseWave(processor) => Access::Raise(course.signal(self.wave, processor)),
             Row::RaiseOff(_) => Access::Raise(4),
         }
     }
 
-    /// The signal that the chipset's wave raises at a processor.
-    fn signal(&self, processor: u16) -> u32
-        ensures value { (v : Option ℕ) → result ≡ signal_at (wave_at (the_platform v) self.now.wave) processor }
-        ensures fits { result ≤ 4 }
-    {
-        if self.wave == 1 && processor == 0 {
-            1
-        } else {
-            3
-        }
-    }
-
     /// Are all there that the boot processor waits for, where it found so many counted?
-    fn are_all_there(&self, found: u32) -> bool
+    fn are_all_there(&self, course: &Course, found: u32) -> bool
         requires { found ≤ LOCKED }
-        ensures { result ≡ nat_le 1 (found + self.now.blocked) }
+        ensures { result ≡ are_all_there course.now (seat_in course.now self.now) found }
     {
-        found + self.blocked >= u32::from(PROCESSORS)
+        found + self.blocked >= u32::from(course.processors())
     }
 
     /// The status of the boot processor's write: of its own image, or of a processor that isn't there.
@@ -232,20 +216,20 @@ impl Seat {
     }
 
     /// The next step of the serving.
-    fn next_step(&self) -> Option<ServingStep>
-        ensures { result ≡ step_in self.now.chair }
+    fn next_step(&self, course: &Course) -> Option<ServingStep>
+        ensures { result ≡ step_in (held_in course.now self.now.chair) }
     {
-        match &self.chair {
-            Some(chair) => chair.next_step(),
+        match self.chair {
+            Some(chair) => chair.next_step(course),
             None => None,
         }
     }
 
     /// What the boot processor says next.
-    fn next_label(&self, me: u16) -> Label
-        ensures { result ≡ next_said me self.now.cpu self.now.chair }
+    fn next_label(&self, course: &Course, me: u16) -> Label
+        ensures { result ≡ next_said me self.now.cpu (held_in course.now self.now.chair) }
     {
-        match self.next_step() {
+        match self.next_step(course) {
             Some(step) => self.step_label(me, step),
             None => Label::Silent,
         }
@@ -254,7 +238,7 @@ impl Seat {
     /// The image that the processor last resumed from, or its first.
     pub fn last(&self) -> &Image
         requires { IsSome self.now.cpu }
-        ensures { last_of (Some self.now) ≡ Some result.now }
+        ensures { option_map (λ cpu. cpu.last) self.now.cpu ≡ Some result.now }
     {
         match &self.cpu {
             Some(cpu) => cpu.last(),
@@ -273,10 +257,10 @@ impl Seat {
     }
 
     /// What the event at a row says.
-    pub fn label(&self, me: u16, row: Row, found: u32) -> Label
+    pub fn label(&self, course: &Course, me: u16, row: Row, found: u32) -> Label
         requires row_in { IsRow self.now.visits self.now.wave (Some row) }
         requires found_fits { found ≤ LOCKED }
-        ensures { (v : Option ℕ) → result ≡ label_of (the_platform v) me self.now row found }
+        ensures { result ≡ label_of course.now me (seat_in course.now self.now) row found }
     {
         match row {
             Row::AwaitSmi if found == 1 => Label::Enter,
@@ -289,37 +273,37 @@ impl Seat {
             Row::LookAtExcept => Label::Gather(found),
             Row::GatherFirst(looks) => {
                 look_text(
-                    self.are_all_there(found),
-                    looks + 1 >= FIRST_POLLS,
+                    self.are_all_there(course, found),
+                    looks + 1 >= course.first_polls(),
                     1,
                     found,
                 )
             }
             Row::GatherSecond(looks) => {
                 look_text(
-                    self.are_all_there(found),
-                    looks + 1 >= SECOND_POLLS,
+                    self.are_all_there(course, found),
+                    looks + 1 >= course.second_polls(),
                     2,
                     found,
                 )
             }
             Row::LockCounter => Label::Close(found),
-            Row::Serve => self.next_label(me),
+            Row::Serve => self.next_label(course, me),
             Row::LeaveInside => Label::Done,
             Row::UnlockCounter => Label::End,
             Row::ClearSignal => Label::Resume(self.resumes_by()),
-            Row::AnnounceBlocked => Label::Excepted(0),
+            Row::AnnounceBlocked => Label::Excepted(course.blocked(self.wave)),
             Row::AnnounceWave => Label::Wave(self.wave),
             _ => Label::Silent,
         }
     }
 
     /// Serving goes on while the chair has more to say.
-    fn serving_row(&self) -> Row
-        ensures { result ≡ serving_row self.now.chair }
+    fn serving_row(&self, course: &Course) -> Row
+        ensures { result ≡ serving_row (held_in course.now self.now.chair) }
     {
-        match &self.chair {
-            Some(chair) => chair.row(),
+        match self.chair {
+            Some(chair) => chair.row(course),
             None => Row::LeaveInside,
         }
     }
@@ -339,23 +323,39 @@ impl Seat {
     }
 
     /// A processor waits for an interrupt, but after all its visits it turns itself off.
-    fn row_to_await(&self) -> Row
-        ensures { result ≡ (if nat_le 3 self.now.visits then Row.SwitchOff else Row.AwaitSmi) }
+    fn row_to_await(&self, course: &Course) -> Row
+        ensures value { result ≡ to_await course.now (seat_in course.now self.now) }
+        ensures within { IsRow self.now.visits self.now.wave (Some result) }
     {
-        if self.visits >= VISITS {
+        if self.visits >= course.visits() {
             Row::SwitchOff
         } else {
             Row::AwaitSmi
         }
     }
 
-    /// The chipset's row after a look for its wave to be taken.
-    fn row_behind_watch(&self, looks: u32, found: u32) -> Row
-        requires { looks < 16 }
-        ensures { result ≡ (if found == 0 then Row.AwaitServed
-            else (if nat_le 16 (looks + 1) then Row.AwaitServed else Row.WatchSource (looks + 1))) }
+    /// The chipset goes on to its next wave, or turns all signals off after its last.
+    fn row_to_wave(&self, course: &Course) -> Row
+        requires { self.now.wave ≤ 1 }
+        ensures value { result ≡ to_wave course.now (self.now.wave + 1) }
+        ensures within { IsRow self.now.visits (self.now.wave + 1) (Some result) }
     {
-        if found == 0 || looks + 1 >= FIRST_POLLS + SECOND_POLLS {
+        if course.reaches(self.wave + 1) {
+            Row::AnnounceBlocked
+        } else {
+            Row::RaiseOff(0)
+        }
+    }
+
+    /// The chipset's row after a look for its wave to be taken.
+    fn row_behind_watch(&self, course: &Course, looks: u32, found: u32) -> Row
+        requires looks_in { looks < 8192 }
+        requires wave_in { self.now.wave ≤ 1 }
+        ensures value { result ≡ (if found == 0 then Row.AwaitServed
+            else (if nat_le (course.now.t1 + course.now.t2) (looks + 1) then Row.AwaitServed else Row.WatchSource (looks + 1))) }
+        ensures within { IsRow self.now.visits self.now.wave (Some result) }
+    {
+        if found == 0 || looks + 1 >= course.first_polls() + course.second_polls() {
             Row::AwaitServed
         } else {
             Row::WatchSource(looks + 1)
@@ -363,15 +363,19 @@ impl Seat {
     }
 
     /// The row after the event at a row, or `None` where the actor is off then.
-    pub fn next_row(&self, row: Row, found: u32) -> Option<Row>
+    pub fn next_row(&self, course: &Course, row: Row, found: u32) -> Option<Row>
         requires row_in { IsRow self.now.visits self.now.wave (Some row) }
         requires found_fits { found ≤ LOCKED }
-        ensures value { (v : Option ℕ) → result ≡ row_after (the_platform v) self.now row found }
-        ensures within { IsRow (visits_after self.now row found) (wave_after self.now row found) result }
+        ensures value { result ≡ row_after course.now (seat_in course.now self.now) row found }
+        ensures within { IsRow (visits_after self.now.visits row found) (wave_after self.now.wave row found) result }
     {
         let next = match row {
             Row::AwaitSmi if found == 1 => Row::LookAtSource,
-            Row::AwaitSmi | Row::SwitchOff | Row::RaiseOff(_) => return None,
+            Row::AwaitSmi | Row::SwitchOff => return None,
+            Row::RaiseOff(processor) if processor + 1 < course.processors() => {
+                Row::RaiseOff(processor + 1)
+            }
+            Row::RaiseOff(_) => return None,
             Row::LookAtSource => Row::LookAtInside,
             Row::LookAtInside if self.source == 0 && found == 0 => Row::AwaitSessionEnd,
             Row::LookAtInside => Row::CountIn,
@@ -382,40 +386,42 @@ impl Seat {
             Row::TakeSource => Row::LookAtExcept,
             Row::LookAtExcept => Row::GatherFirst(0),
             Row::GatherFirst(looks) => row_after_look(
-                self.are_all_there(found),
-                looks + 1 >= FIRST_POLLS,
+                self.are_all_there(course, found),
+                looks + 1 >= course.first_polls(),
                 Row::GatherFirst(looks + 1),
                 Row::GatherSecond(0),
             ),
             Row::GatherSecond(looks) => row_after_look(
-                self.are_all_there(found),
-                looks + 1 >= SECOND_POLLS,
+                self.are_all_there(course, found),
+                looks + 1 >= course.second_polls(),
                 Row::GatherSecond(looks + 1),
                 Row::MarkInsync,
             ),
             Row::MarkInsync => Row::LockCounter,
             Row::LockCounter => Row::Serve,
-            Row::Serve => self.serving_row(),
+            Row::Serve => self.serving_row(course),
             Row::LeaveInside => Row::GiveBsp,
             Row::GiveBsp => Row::LeaveInsync,
             Row::LeaveInsync => Row::UnlockCounter,
             Row::UnlockCounter => Row::AwaitSessionEnd,
             Row::AwaitSessionEnd => Row::ClearSignal,
-            Row::ClearSignal => self.row_to_await(),
+            Row::ClearSignal => self.row_to_await(course),
             Row::AnnounceBlocked => Row::AnnounceWave,
-            Row::AnnounceWave => Row::RaiseWave(0),
-            Row::RaiseWave(_) => Row::WatchSource(0),
-            Row::WatchSource(looks) => self.row_behind_watch(looks, found),
-            Row::AwaitServed if self.wave + 1 <= WAVES => Row::AnnounceBlocked,
-            Row::AwaitServed => Row::RaiseOff(0),
+            Row::AnnounceWave if course.processors() > 0 => Row::RaiseWave(0),
+            Row::RaiseWave(processor) if processor + 1 < course.processors() => {
+                Row::RaiseWave(processor + 1)
+            }
+            Row::AnnounceWave | Row::RaiseWave(_) => Row::WatchSource(0),
+            Row::WatchSource(looks) => self.row_behind_watch(course, looks, found),
+            Row::AwaitServed => self.row_to_wave(course),
         };
         Some(next)
     }
 
     fn visits_after(&self, row: Row, found: u32) -> u32
         requires row_in { IsRow self.now.visits self.now.wave (Some row) }
-        ensures value { result ≡ visits_after self.now row found }
-        ensures fits { result ≤ VISITS }
+        ensures value { result ≡ visits_after self.now.visits row found }
+        ensures fits { result ≤ 256 }
     {
         match row {
             Row::AwaitSmi if found == 1 => self.visits + 1,
@@ -426,7 +432,7 @@ impl Seat {
     fn wave_after(&self, row: Row, found: u32) -> u32
         requires row_in { IsRow self.now.visits self.now.wave (Some row) }
         requires found_fits { found ≤ LOCKED }
-        ensures value { result ≡ wave_after self.now row found }
+        ensures value { result ≡ wave_after self.now.wave row found }
         ensures fits { result ≤ LOCKED }
     {
         match row {
@@ -437,10 +443,10 @@ impl Seat {
     }
 
     /// The processor takes a step of its serving.
-    fn take_step(&mut self, me: u16)
-        ensures { self.new ≡ record self.old { cpu = option_map (served_cpu me self.old.chair) self.old.cpu } }
+    fn take_step(&mut self, course: &Course, me: u16)
+        ensures { self.new ≡ record self.old { cpu = option_map (served_cpu me (held_in course.now self.old.chair)) self.old.cpu } }
     {
-        if let Some(ServingStep::Do(operation)) = self.next_step() {
+        if let Some(ServingStep::Do(operation)) = self.next_step(course) {
             if operation.cpu == me {
                 if let Some(cpu) = &mut self.cpu {
                     cpu.write(operation);
@@ -449,31 +455,41 @@ impl Seat {
         }
     }
 
+    /// The cause of the visit that begins.
+    fn next_cause(&self, course: &Course, me: u16) -> Cause
+        ensures { result ≡ cause_of course.now me (self.now.visits + 1) }
+    {
+        course.cause(me, self.visits + 1)
+    }
+
     /// The processor after the event at its row.
-    fn advance_cpu(&mut self, me: u16, row: Row, found: u32)
-        ensures { self.new ≡ record self.old { cpu = cpu_after me self.old.chair self.old.cpu row found } }
+    fn advance_cpu(&mut self, course: &Course, me: u16, row: Row, found: u32)
+        ensures { self.new ≡ record self.old { cpu = cpu_after course.now me self.old.visits (held_in course.now self.old.chair) self.old.cpu row found } }
     {
         match row {
-            Row::AwaitSmi if found == 1 => enter_cpu(&mut self.cpu),
-            Row::Serve => self.take_step(me),
+            Row::AwaitSmi if found == 1 => {
+                let cause = self.next_cause(course, me);
+                enter_cpu(&mut self.cpu, cause);
+            }
+            Row::Serve => self.take_step(course, me),
             Row::ClearSignal => resume_cpu(&mut self.cpu),
             _ => {}
         }
     }
 
     /// The seat after the event at its row.
-    pub fn advance(&mut self, value: Option<u64>, me: u16, row: Row, found: u32)
+    pub fn advance(&mut self, course: &Course, me: u16, row: Row, found: u32)
         requires row_is { self.old.row ≡ Some row }
         requires found_fits { found ≤ LOCKED }
-        ensures { self.new ≡ seat_after (the_platform value) me self.old row found }
+        ensures { seat_in course.now self.new ≡ seat_after course.now me (seat_in course.now self.old) row found }
     {
         let _stands_at = self.row();
-        let next = self.next_row(row, found);
+        let next = self.next_row(course, row, found);
         let visits = self.visits_after(row, found);
         let wave = self.wave_after(row, found);
-        self.advance_cpu(me, row, found);
+        self.advance_cpu(course, me, row, found);
         self.advance_numbers(row, found);
-        let chair = next_chair(value, self.chair.take(), self.wave, row);
+        let chair = next_chair(course, self.chair, self.wave, row);
         self.visits = visits;
         self.wave = wave;
         self.chair = chair;
@@ -498,11 +514,11 @@ impl Seat {
     }
 }
 
-fn enter_cpu(cpu: &mut Option<Cpu>)
-    ensures { cpu.new ≡ option_map entered_cpu cpu.old }
+fn enter_cpu(cpu: &mut Option<Cpu>, cause: Cause)
+    ensures { cpu.new ≡ option_map (entered_cpu cause) cpu.old }
 {
     if let Some(cpu) = cpu {
-        cpu.enter();
+        cpu.enter(cause);
     }
 }
 

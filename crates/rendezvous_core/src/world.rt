@@ -1,16 +1,18 @@
-ghost use Rattle.std.specs.Prelude.{◌≡◌, ◌<◌, ◌≤◌, ◌++◌, [], ◌∷◌, length, IfOk, Some};
-ghost use Rattle.smm_base.specs.declared.kinds.MapKind.TheVariants.{Intel64};
-ghost use Rattle.rendezvous_core.specs.Platform.{the_platform};
+ghost use Rattle.std.specs.Prelude.{◌≡◌, ◌<◌, ◌≤◌, ◌++◌, [], ◌∷◌, length, IfOk, IsTrue, Some};
+ghost use Rattle.cpu_table.specs.Data.{data_of};
+ghost use Rattle.rendezvous_core.specs.Setups.{platform_of, is_built, AreImagesOf};
 ghost use Rattle.rendezvous_core.specs.Worlds.{start, step, with_event, is_complete, last_image, MakesNoEvent};
 
 use crate::chair::Chair;
+use crate::course::Course;
 use crate::cpu::Cpu;
+use crate::error::WorldError;
 use crate::seat::{PROCESSORS, Seat};
 use crate::stepped::Stepped;
 use crate::turn::take_turn;
 use crate::words::Words;
+use cpu_table::Setup;
 use save_state_map::Image;
-use smm_base::NoMemory;
 use std::alloc::Global;
 use std::marker::Model;
 use sync_words::{Event, Row};
@@ -18,7 +20,7 @@ use sync_words::{Event, Row};
 /// A replay as far as it has come: the world, and the events that led to it.
 #[derive(Drop)]
 pub struct World {
-    value: Option<u64>,
+    course: Course,
     words: Words,
     lying: Option<Chair>,
     processor: Seat,
@@ -39,23 +41,33 @@ impl Model for World {
     ghost invariant = { IsWorld };
 }
 
+/// The one image of a platform that is built.
+fn only_image(images: &[Image]) -> &Image
+    requires { length images.now ≡ 1 }
+    ensures { images.now ≡ result.now ∷ [] }
+{
+    &images[0]
+}
+
 impl World {
-    /// The start on the platform of one processor, whose one handler writes `value` to RAX, or that
-    /// has none, from its image. There is room for so many events. All memory that the replay uses is
-    /// taken here.
-    pub fn one(
+    /// The start on the platform of a setup that is built, from an image for each processor, of the
+    /// setup's kind. There is room for so many events. All memory that the replay uses is taken here.
+    pub fn new(
         alloc: Global,
-        value: Option<u64>,
-        image: &Image,
+        setup: &Setup,
+        images: &Vec<Image>,
         room: usize,
-    ) -> Result<World, NoMemory>
-        requires { image.now.kind ≡ Intel64 }
-        ensures start { IfOk result (λ w. w ≡ record { value = value; world = start (the_platform value) (image.now ∷ []); events = []; room = room }) }
+    ) -> Result<World, WorldError>
+        requires built { IsTrue (is_built (data_of setup.now)) }
+        requires images { AreImagesOf (data_of setup.now) images.now.items }
+        ensures start { IfOk result (λ w. w ≡ record { platform = platform_of (data_of setup.now); world = start (platform_of (data_of setup.now)) images.now.items; events = []; room = room }) }
     {
+        let course = Course::new(alloc, setup)?;
+        let image = only_image(images.as_slice());
         Ok(World {
-            value,
+            course,
             words: Words::start(alloc)?,
-            lying: Some(Chair::idle()),
+            lying: Some(Chair::Idle),
             processor: Seat::new(Row::AwaitSmi, 0, Some(Cpu::new(image))),
             chipset: Seat::new(Row::AnnounceBlocked, 1, None),
             events: Vec::with_capacity(alloc, room)?,
@@ -64,12 +76,12 @@ impl World {
     }
 
     fn step_processor(&mut self) -> Stepped
-        ensures stepped { result ≡ (step (the_platform self.old.value) self.old.world 0).0 }
-        ensures world { self.new ≡ record self.old { world = (step (the_platform self.old.value) self.old.world 0).1 } }
+        ensures stepped { result ≡ (step self.old.platform self.old.world 0).0 }
+        ensures world { self.new ≡ record self.old { world = (step self.old.platform self.old.world 0).1 } }
         ensures stays { MakesNoEvent result → self.new ≡ self.old }
     {
         take_turn(
-            self.value,
+            &self.course,
             &mut self.words,
             &mut self.lying,
             0,
@@ -78,12 +90,12 @@ impl World {
     }
 
     fn step_chipset(&mut self) -> Stepped
-        ensures stepped { result ≡ (step (the_platform self.old.value) self.old.world 1).0 }
-        ensures world { self.new ≡ record self.old { world = (step (the_platform self.old.value) self.old.world 1).1 } }
+        ensures stepped { result ≡ (step self.old.platform self.old.world 1).0 }
+        ensures world { self.new ≡ record self.old { world = (step self.old.platform self.old.world 1).1 } }
         ensures stays { MakesNoEvent result → self.new ≡ self.old }
     {
         take_turn(
-            self.value,
+            &self.course,
             &mut self.words,
             &mut self.lying,
             PROCESSORS,
@@ -102,19 +114,21 @@ impl World {
         }
     }
 
-    /// One step of an actor: processor 0, or the chipset 1. It takes no memory and constant time.
+    /// One step of an actor: a processor by its number, or the chipset, which has the number of
+    /// processors. It takes no memory and constant time, but that a processor that enters looks its
+    /// visit up among the setup's causes.
     pub fn step(&mut self, actor: u16) -> Stepped
-        requires actor_in { actor ≤ 1 }
+        requires actor_in { actor ≤ self.old.platform.processors }
         requires has_room { length self.old.events < self.old.room }
-        ensures stepped { result ≡ (step (the_platform self.old.value) self.old.world actor).0 }
-        ensures world { self.new.world ≡ (step (the_platform self.old.value) self.old.world actor).1 }
+        ensures stepped { result ≡ (step self.old.platform self.old.world actor).0 }
+        ensures world { self.new.world ≡ (step self.old.platform self.old.world actor).1 }
         ensures events { self.new.events ≡ self.old.events ++ with_event result [] }
         ensures room { self.new.room ≡ self.old.room }
-        ensures value { self.new.value ≡ self.old.value }
+        ensures platform { self.new.platform ≡ self.old.platform }
         // Where the actor waits or is off, nothing changes.
         ensures stays { MakesNoEvent result → self.new ≡ self.old }
     {
-        let stepped = if actor == PROCESSORS {
+        let stepped = if actor == self.course.processors() {
             self.step_chipset()
         } else {
             self.step_processor()
@@ -132,7 +146,7 @@ impl World {
 
     /// The image that processor `i` last resumed from, or its first.
     pub fn after(&self, i: u16) -> &Image
-        requires { i ≡ 0 }
+        requires { i < self.now.platform.processors }
         ensures { last_image self.now.world i ≡ Some result.now }
     {
         self.processor.last()

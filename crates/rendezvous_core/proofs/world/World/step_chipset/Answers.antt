@@ -1,8 +1,9 @@
 -- The turn of the one actor is the step of the world.
 use Rattle.std.proofs.Common.{◌≡◌, [], ◌∷◌, sym, subst, ap, ◌∙◌}
-use Rattle.rendezvous_core.specs.Platform.{the_platform}
-use Rattle.rendezvous_core.specs.Protocol.{Seat}
 use Rattle.rendezvous_core.specs.SeatInside.{IsChipsetRow}
+use Rattle.rendezvous_core.specs.ChairInside.{held_in}
+use Rattle.rendezvous_core.specs.Protocol.{Seat}
+use Rattle.rendezvous_core.specs.Stand.{seat_in}
 use Rattle.rendezvous_core.specs.Worlds.{Replay, World, step, MakesNoEvent}
 use Rattle.rendezvous_core.proofs.Waiting.{waiting_stays}
 use Rattle.rendezvous_core.specs.WorldInside.{replay_of}
@@ -10,35 +11,37 @@ use Rattle.rendezvous_core.proofs.SeatLemmas.{turn_stays}
 use Rattle.rendezvous_core.proofs.world.World.step_chipset.Goals as goal
 
 pub returns-clause-stepped : goal.returns-clause-stepped
-returns-clause-stepped c = c.take_turn.ensures.stepped ∙ ap (λ (r : Replay). (step (the_platform r.value) r.world 1).0) c.self.view_is
+returns-clause-stepped c = c.take_turn.ensures.stepped ∙ ap (λ (r : Replay). (step r.platform r.world 1).0) c.self.view_is
 
 pub returns-clause-world : goal.returns-clause-world
 returns-clause-world c =
     let e = c.take_turn.ensures in
-    let moved : Replay = record (replay_of c.self.inside) { world = (step (the_platform c.self.inside.value) (replay_of c.self.inside).world 1).1 } in
+    let p = c.self.inside.course in
+    let moved : Replay = record (replay_of c.self.inside) { world = (step p (replay_of c.self.inside).world 1).1 } in
     let built : record {
-      value = c.self.inside.value;
-      world = record { words = c.take_turn.new.words; chair = c.take_turn.new.lying; seats = c.self.inside.processor ∷ c.take_turn.new.seat ∷ [] };
+      platform = p;
+      world = record { words = c.take_turn.new.words; chair = held_in p c.take_turn.new.lying; seats = seat_in c.self.inside.course c.self.inside.processor ∷ seat_in c.self.inside.course c.take_turn.new.seat ∷ [] };
       events = c.self.inside.events.items;
       room = c.self.inside.room;
     } ≡ moved = λ t. record {
-      value = c.self.inside.value;
-      world = record { words = e.words t; chair = e.chair t; seats = c.self.inside.processor ∷ e.seat t ∷ [] };
+      platform = p;
+      world = record { words = e.words t; chair = e.chair t; seats = seat_in c.self.inside.course c.self.inside.processor ∷ e.seat t ∷ [] };
       events = c.self.inside.events.items;
       room = c.self.inside.room;
     } in
-    built ∙ ap (λ (r : Replay). record r { world = (step (the_platform r.value) r.world 1).1 }) c.self.view_is
+    built ∙ ap (λ (r : Replay). record r { world = (step r.platform r.world 1).1 }) c.self.view_is
 
 pub invariant_of-self : goal.invariant_of-self
 invariant_of-self c =
     let e = c.take_turn.ensures in
-    let stays = turn_stays c.self.inside.value c.self.inside.words c.self.inside.lying c.self.inside.chipset c.self.invariant.chipset in
-    record { processor = c.self.invariant.processor; chipset = subst (λ (s : Seat). IsChipsetRow s.row) (sym e.seat) stays; room = c.self.invariant.room }
+    let p = c.self.inside.course in
+    let stays = turn_stays p c.self.inside.words (held_in p c.self.inside.lying) (seat_in p c.self.inside.chipset) c.self.invariant.chipset in
+    record { one = c.self.invariant.one; processor = c.self.invariant.processor; chipset = subst (λ (s : Seat). IsChipsetRow s.row) (sym e.seat) stays; room = c.self.invariant.room }
 
 pub returns-clause-stays : goal.returns-clause-stays
 returns-clause-stays c =
     λ h.
     let before = c.args.self.now in
-    let p = the_platform before.value in
-    let stepped = c.take_turn.ensures.stepped ∙ ap (λ (r : Replay). (step (the_platform r.value) r.world 1).0) c.self.view_is in
+    let p = before.platform in
+    let stepped = c.take_turn.ensures.stepped ∙ ap (λ (r : Replay). (step r.platform r.world 1).0) c.self.view_is in
     returns-clause-world c ∙ ap (λ (w : World). record before { world = w }) (waiting_stays p before.world 1 (subst MakesNoEvent stepped h))
