@@ -2,5 +2,4 @@ pub mod LoadLemmas
 pub mod PlayLemmas
 pub mod ReplayLemmas
 mod ReportLemmas
-pub mod ScheduleLemmas
 pub mod WordLemmas

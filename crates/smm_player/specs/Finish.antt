@@ -2,8 +2,9 @@
 use Rattle.std.specs.Prelude.{ℕ, ◌≡◌, ◌⊎◌, List, Option}
 use Rattle.smm_base.specs.Sink.{appended, GainsPrefix}
 use Rattle.smm_player.specs.declared.fault.Fault.{Fault}
-use Rattle.smm_player.specs.declared.fault.Fault.TheVariants.{Usage, Read, TooLong, NotBuilt, Images, Write, Save, Memory}
+use Rattle.smm_player.specs.declared.fault.Fault.TheVariants.{Usage, Refused, Write, Save, Memory}
 use Rattle.smm_player.specs.Fault.{status_of, fault_line}
+use Rattle.smm_player.specs.Refusal.{memory_line}
 
 -- a front part of one piece was written, and then a front part of another
 abbrev pub GainsBoth : Option (List ℕ) → Option (List ℕ) → List ℕ → List ℕ → Type 0
@@ -17,15 +18,12 @@ Tells write_failed before after line = GainsPrefix before after line × ((after 
 abbrev pub TellsOrRunsOut : Type 0 → Option (List ℕ) → Option (List ℕ) → List (List ℕ) → Fault → ℕ → Type 0
 TellsOrRunsOut write_failed before after words fault status =
     ((status ≡ status_of fault) × Tells write_failed before after (fault_line words fault))
-    ⊎ ((status ≡ 8) × GainsBoth before after (fault_line words fault) (fault_line words Memory))
+    ⊎ ((status ≡ 8) × GainsBoth before after (fault_line words fault) memory_line)
 
 -- How a command ends at each fault. A failed write or save has no line.
 abbrev pub Finishes : Type 0 → Option (List ℕ) → Option (List ℕ) → List (List ℕ) → ℕ → Fault → Type 0
 Finishes write_failed before after words status Usage = TellsOrRunsOut write_failed before after words Usage status
-Finishes write_failed before after words status (Read input) = TellsOrRunsOut write_failed before after words (Read input) status
-Finishes write_failed before after words status (TooLong input) = TellsOrRunsOut write_failed before after words (TooLong input) status
-Finishes write_failed before after words status (NotBuilt input) = TellsOrRunsOut write_failed before after words (NotBuilt input) status
-Finishes write_failed before after words status (Images fault) = TellsOrRunsOut write_failed before after words (Images fault) status
+Finishes write_failed before after words status (Refused refusal) = TellsOrRunsOut write_failed before after words (Refused refusal) status
 Finishes write_failed before after words status Write = (status ≡ 7) × (after ≡ before)
 Finishes write_failed before after words status Save = (status ≡ 7) × (after ≡ before)
-Finishes write_failed before after words status Memory = (status ≡ 8) × GainsPrefix before after (fault_line words Memory)
+Finishes write_failed before after words status Memory = (status ≡ 8) × GainsPrefix before after memory_line

@@ -4,8 +4,8 @@ pub mod Finish
 pub mod Lines
 pub mod Plan
 pub mod Play
+pub mod Refusal
 pub mod Replay
 pub mod Report
-pub mod Schedule
 pub mod Verdict
 pub mod Words

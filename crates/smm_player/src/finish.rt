@@ -4,6 +4,7 @@ ghost use Rattle.smm_base.specs.Sink.{appended, GainsPrefix};
 ghost use Rattle.smm_player.specs.declared.fault.Fault.TheVariants.{Memory};
 ghost use Rattle.smm_player.specs.Fault.{status_of, fault_line};
 ghost use Rattle.smm_player.specs.Finish.{Finishes, TellsOrRunsOut};
+ghost use Rattle.smm_player.specs.Refusal.{memory_line};
 ghost use Rattle.smm_player.specs.Words.{texts};
 
 use crate::fault::{Fault, line_of};
@@ -14,11 +15,11 @@ use std::alloc::Global;
 fn write_line<K: Sink>(
     alloc: Global,
     words: &Vec<String>,
-    fault: Fault,
+    fault: &Fault,
     out: &mut K,
 ) -> Result<(), WriteError>
-    ensures appends { OnOk result (K.written out.new ≡ appended (K.written out.old) (fault_line (texts words.now.items) fault)) }
-    ensures prefix { OnErr result (GainsPrefix (K.written out.old) (K.written out.new) (fault_line (texts words.now.items) fault)) }
+    ensures appends { OnOk result (K.written out.new ≡ appended (K.written out.old) (fault_line (texts words.now.items) fault.now)) }
+    ensures prefix { OnErr result (GainsPrefix (K.written out.old) (K.written out.new) (fault_line (texts words.now.items) fault.now)) }
     ensures failed { IsErrOf result WriteError.Failed → Rose (K.faults out.old) (K.faults out.new) }
     ensures never_falls { K.faults out.old ≤ K.faults out.new }
 {
@@ -29,12 +30,11 @@ fn write_line<K: Sink>(
 }
 
 // Tries the line for want of memory, for which no memory is taken.
-fn end_without_memory<K: Sink>(words: &Vec<String>, out: &mut K) -> u8
+fn end_without_memory<K: Sink>(out: &mut K) -> u8
     ensures status { result ≡ 8 }
-    ensures prefix { GainsPrefix (K.written out.old) (K.written out.new) (fault_line (texts words.now.items) Memory) }
+    ensures prefix { GainsPrefix (K.written out.old) (K.written out.new) memory_line }
     ensures never_falls { K.faults out.old ≤ K.faults out.new }
 {
-    let _ = words;
     match write_all(out, b"fault memory\n") {
         Ok(()) => 8,
         Err(_) => 8,
@@ -42,14 +42,14 @@ fn end_without_memory<K: Sink>(words: &Vec<String>, out: &mut K) -> u8
 }
 
 // Tells a fault by its line, and answers the exit status.
-fn tell<K: Sink>(alloc: Global, words: &Vec<String>, fault: Fault, out: &mut K) -> u8
-    ensures tells { TellsOrRunsOut (Rose (K.faults out.old) (K.faults out.new)) (K.written out.old) (K.written out.new) (texts words.now.items) fault result }
+fn tell<K: Sink>(alloc: Global, words: &Vec<String>, fault: &Fault, out: &mut K) -> u8
+    ensures tells { TellsOrRunsOut (Rose (K.faults out.old) (K.faults out.new)) (K.written out.old) (K.written out.new) (texts words.now.items) fault.now result }
     ensures never_falls { K.faults out.old ≤ K.faults out.new }
 {
     match write_line(alloc, words, fault, out) {
         Ok(()) => fault.status(),
         Err(WriteError::Failed) => fault.status(),
-        Err(WriteError::NoMemory) => end_without_memory(words, out),
+        Err(WriteError::NoMemory) => end_without_memory(out),
     }
 }
 
@@ -59,13 +59,10 @@ pub(crate) fn finish<K: Sink>(alloc: Global, words: &Vec<String>, fault: Fault, 
     ensures never_falls { K.faults out.old ≤ K.faults out.new }
 {
     match fault {
-        Fault::Usage => tell(alloc, words, Fault::Usage, out),
-        Fault::Read(input) => tell(alloc, words, Fault::Read(input), out),
-        Fault::TooLong(input) => tell(alloc, words, Fault::TooLong(input), out),
-        Fault::NotBuilt(input) => tell(alloc, words, Fault::NotBuilt(input), out),
-        Fault::Images(fault) => tell(alloc, words, Fault::Images(fault), out),
+        Fault::Usage => tell(alloc, words, &Fault::Usage, out),
+        Fault::Refused(refusal) => tell(alloc, words, &Fault::Refused(refusal), out),
         Fault::Write => 7,
         Fault::Save => 7,
-        Fault::Memory => end_without_memory(words, out),
+        Fault::Memory => end_without_memory(out),
     }
 }

@@ -9,9 +9,9 @@ mod images;
 mod input;
 mod lines;
 mod load;
+mod refusal;
 mod replay;
 mod report;
-mod schedule;
 mod words;
 
 pub use command::play;
@@ -19,6 +19,7 @@ pub use fault::Fault;
 pub use images::ImagesFault;
 pub use input::Input;
 pub use lines::push_event;
+pub use refusal::Refusal;
 pub use report::write_report;
 
 #[cfg(test)]

@@ -1,26 +1,32 @@
-ghost use Rattle.std.specs.Prelude.{◌≡◌, ◌≤◌, Ok, All, IfErr, IfOk, map, string_bytes};
+ghost use Rattle.std.specs.Prelude.{◌≡◌, ◌≤◌, [], ◌∷◌, Ok, All, IfErr, IfOk, IsTrue, if◌then◌else◌, map, string_bytes};
 ghost use Rattle.smm_base.specs.Faults.{Rose};
+ghost use Rattle.cpu_table.specs.Data.{data_of};
+ghost use Rattle.rendezvous_core.specs.Setups.{is_built};
 ghost use Rattle.smm_player.specs.declared.input.Input.TheVariants.{Platform, Images, Schedule};
-ghost use Rattle.smm_base.specs.declared.kinds.MapKind.TheVariants.{Intel64};
-ghost use Rattle.smm_player.specs.Plan.{plan};
-ghost use Rattle.smm_player.specs.Verdict.{loaded, platform_found, platform_due, images_found, ImagesCause, images_due, schedule_due, told_at, told_due, HasCause, IsDue};
+ghost use Rattle.smm_player.specs.declared.fault.Fault.TheVariants.{Refused};
+ghost use Rattle.smm_player.specs.declared.refusal.Refusal.TheVariants.{NotBuilt};
+ghost use Rattle.smm_player.specs.Plan.{plan, IsPlayable};
+ghost use Rattle.smm_player.specs.Verdict.{loaded, platform_found, platform_due, images_found, images_due, schedule_found, schedule_due, told_at, told_due, HasCause, IsDue, StopsReading};
 ghost use Rattle.smm_player.specs.Words.{texts, name_of};
 
-use crate::fault::Fault;
-use crate::files::{is_handler_platform, is_platform, limit};
-use crate::images::{refusal, single_image};
+use crate::fault::{Fault, images_fault, platform_fault, schedule_fault};
+use crate::files::limit;
+use crate::images::single_image;
 use crate::input::Input;
-use crate::schedule::read_schedule;
+use crate::refusal::Refusal;
 use crate::words::input_name;
+use cpu_table::Setup;
 use image_file::read_images;
+use platform_file::{read_platform, read_schedule};
+use rendezvous_core::is_built;
 use save_state_map::Image;
-use smm_base::{LoadError, Store};
+use smm_base::{LoadError, MapKind, Store};
 use std::alloc::Global;
 
 /// What a replay works on.
 #[derive(Drop)]
 pub(crate) struct Inputs {
-    pub(crate) value: Option<u64>,
+    pub(crate) setup: Setup,
     pub(crate) image: Image,
     pub(crate) schedule: Vec<u16>,
 }
@@ -40,24 +46,34 @@ fn load_input<F: Store>(
 {
     match store.load(alloc, input_name(words, input), limit(input)) {
         Ok(bytes) => Ok(bytes),
-        Err(LoadError::Failed) => Err(Fault::Read(input)),
-        Err(LoadError::Missing) => Err(Fault::Read(input)),
-        Err(LoadError::TooLong) => Err(Fault::TooLong(input)),
+        Err(LoadError::Failed) => Err(Fault::Refused(Refusal::Read(input))),
+        Err(LoadError::Missing) => Err(Fault::Refused(Refusal::Read(input))),
+        Err(LoadError::TooLong) => Err(Fault::Refused(Refusal::TooLong(input))),
         Err(LoadError::NoMemory) => Err(Fault::Memory),
     }
 }
 
-// The number that the platform's handler writes, where it has one.
-fn platform_value(bytes: &[u8]) -> Result<Option<u64>, Fault>
-    ensures { result ≡ platform_found bytes.now }
+// A setup, where the replay plays it.
+fn built_only(setup: Setup) -> Result<Setup, Fault>
+    ensures value { result ≡ (if is_built (data_of setup) then Ok setup else Err (Refused (NotBuilt Platform))) }
+    ensures built { IfOk result (λ setup. IsTrue (is_built (data_of setup))) }
 {
-    if is_platform(bytes) {
-        return Ok(None);
-    }
-    if is_handler_platform(bytes) {
-        Ok(Some(5627))
+    if is_built(&setup) {
+        Ok(setup)
     } else {
-        Err(Fault::NotBuilt(Input::Platform))
+        Err(Fault::Refused(Refusal::NotBuilt(Input::Platform)))
+    }
+}
+
+// The setup of a platform file.
+fn setup_of(alloc: Global, bytes: &[u8]) -> Result<Setup, Fault>
+    ensures found { IfOk result (λ setup. platform_found bytes.now ≡ Ok (data_of setup)) }
+    ensures built { IfOk result (λ setup. IsTrue (is_built (data_of setup))) }
+    ensures cause { IfErr result (StopsReading (platform_found bytes.now)) }
+{
+    match read_platform(alloc, bytes) {
+        Ok(setup) => built_only(setup),
+        Err(error) => Err(platform_fault(error)),
     }
 }
 
@@ -66,40 +82,58 @@ fn load_platform<F: Store>(
     alloc: Global,
     words: &Vec<String>,
     store: &mut F,
-) -> Result<Option<u64>, Fault>
-    ensures due { IfOk result (λ value. IsDue (told_at platform_due (name_of (texts words.now.items) Platform) (F.files store.old)) value) }
+) -> Result<Setup, Fault>
+    ensures built { IfOk result (λ setup. IsTrue (is_built (data_of setup))) }
+    ensures due { IfOk result (λ setup. IsDue (told_at platform_due (name_of (texts words.now.items) Platform) (F.files store.old)) (data_of setup)) }
     ensures cause { IfErr result (HasCause (told_at platform_due (name_of (texts words.now.items) Platform) (F.files store.old)) (Rose (F.failed_loads store.old) (F.failed_loads store.new))) }
     ensures files_stay { F.files store.new ≡ F.files store.old }
     ensures loads_never_fall { F.failed_loads store.old ≤ F.failed_loads store.new }
     ensures saves_never_fall { F.failed_saves store.old ≤ F.failed_saves store.new }
 {
     let bytes = load_input(alloc, words, store, Input::Platform)?;
-    platform_value(&bytes)
+    setup_of(alloc, &bytes)
 }
 
-// The image of an image file.
-pub(crate) fn image_of(alloc: Global, bytes: &[u8]) -> Result<Image, Fault>
-    ensures found { IfOk result (λ image. images_found bytes.now ≡ Ok image) }
-    ensures kind { IfOk result (λ image. image.kind ≡ Intel64) }
-    ensures cause { IfErr result (ImagesCause bytes.now) }
+// The image of an image file, on a platform of the kind.
+fn image_of(alloc: Global, bytes: &[u8], kind: MapKind) -> Result<Image, Fault>
+    ensures found { IfOk result (λ image. images_found kind bytes.now ≡ Ok image) }
+    ensures kind { IfOk result (λ image. image.kind ≡ kind) }
+    ensures cause { IfErr result (StopsReading (images_found kind bytes.now)) }
 {
     match read_images(alloc, bytes) {
-        Ok(images) => single_image(&images),
-        Err(error) => Err(refusal(error)),
+        Ok(images) => single_image(&images, kind),
+        Err(error) => Err(images_fault(error)),
     }
 }
 
 // Loads the images, and reads them.
-fn load_images<F: Store>(alloc: Global, words: &Vec<String>, store: &mut F) -> Result<Image, Fault>
-    ensures kind { IfOk result (λ image. image.kind ≡ Intel64) }
-    ensures due { IfOk result (λ image. IsDue (told_at images_due (name_of (texts words.now.items) Images) (F.files store.old)) image) }
-    ensures cause { IfErr result (HasCause (told_at images_due (name_of (texts words.now.items) Images) (F.files store.old)) (Rose (F.failed_loads store.old) (F.failed_loads store.new))) }
+fn load_images<F: Store>(
+    alloc: Global,
+    words: &Vec<String>,
+    store: &mut F,
+    kind: MapKind,
+) -> Result<Image, Fault>
+    ensures kind { IfOk result (λ image. image.kind ≡ kind) }
+    ensures due { IfOk result (λ image. IsDue (told_at (images_due kind) (name_of (texts words.now.items) Images) (F.files store.old)) image) }
+    ensures cause { IfErr result (HasCause (told_at (images_due kind) (name_of (texts words.now.items) Images) (F.files store.old)) (Rose (F.failed_loads store.old) (F.failed_loads store.new))) }
     ensures files_stay { F.files store.new ≡ F.files store.old }
     ensures loads_never_fall { F.failed_loads store.old ≤ F.failed_loads store.new }
     ensures saves_never_fall { F.failed_saves store.old ≤ F.failed_saves store.new }
 {
     let bytes = load_input(alloc, words, store, Input::Images)?;
-    image_of(alloc, &bytes)
+    image_of(alloc, &bytes, kind)
+}
+
+// The actors of a schedule, on a platform of so many processors.
+fn actors_of(alloc: Global, bytes: &[u8], processors: u16) -> Result<Vec<u16>, Fault>
+    ensures found { IfOk result (λ actors. schedule_found processors bytes.now ≡ Ok actors.items) }
+    ensures known { IfOk result (λ actors. All (λ actor. actor ≤ processors) actors.items) }
+    ensures cause { IfErr result (StopsReading (schedule_found processors bytes.now)) }
+{
+    match read_schedule(alloc, bytes, processors) {
+        Ok(actors) => Ok(actors),
+        Err(error) => Err(schedule_fault(error)),
+    }
 }
 
 // Loads the schedule, and reads it.
@@ -107,20 +141,17 @@ fn load_schedule<F: Store>(
     alloc: Global,
     words: &Vec<String>,
     store: &mut F,
+    processors: u16,
 ) -> Result<Vec<u16>, Fault>
-    ensures known { IfOk result (λ actors. All (λ actor. actor ≤ 1) actors.items) }
-    ensures due { IfOk result (λ actors. IsDue (told_at schedule_due (name_of (texts words.now.items) Schedule) (F.files store.old)) actors.items) }
-    ensures cause { IfErr result (HasCause (told_at schedule_due (name_of (texts words.now.items) Schedule) (F.files store.old)) (Rose (F.failed_loads store.old) (F.failed_loads store.new))) }
+    ensures known { IfOk result (λ actors. All (λ actor. actor ≤ processors) actors.items) }
+    ensures due { IfOk result (λ actors. IsDue (told_at (schedule_due processors) (name_of (texts words.now.items) Schedule) (F.files store.old)) actors.items) }
+    ensures cause { IfErr result (HasCause (told_at (schedule_due processors) (name_of (texts words.now.items) Schedule) (F.files store.old)) (Rose (F.failed_loads store.old) (F.failed_loads store.new))) }
     ensures files_stay { F.files store.new ≡ F.files store.old }
     ensures loads_never_fall { F.failed_loads store.old ≤ F.failed_loads store.new }
     ensures saves_never_fall { F.failed_saves store.old ≤ F.failed_saves store.new }
 {
-    let text = load_input(alloc, words, store, Input::Schedule)?;
-    match read_schedule(alloc, &text) {
-        Ok(Some(actors)) => Ok(actors),
-        Ok(None) => Err(Fault::NotBuilt(Input::Schedule)),
-        Err(_) => Err(Fault::Memory),
-    }
+    let bytes = load_input(alloc, words, store, Input::Schedule)?;
+    actors_of(alloc, &bytes, processors)
 }
 
 // Loads and reads the three input files, one after another.
@@ -129,19 +160,19 @@ pub(crate) fn load_inputs<F: Store>(
     words: &Vec<String>,
     store: &mut F,
 ) -> Result<Inputs, Fault>
-    ensures known { IfOk result (λ inputs. All (λ actor. actor ≤ 1) inputs.schedule.items) }
-    ensures kind { IfOk result (λ inputs. inputs.image.kind ≡ Intel64) }
-    ensures due { IfOk result (λ inputs. IsDue (told_due (texts words.now.items) (F.files store.old)) (plan inputs.value inputs.image inputs.schedule.items)) }
+    ensures known { IfOk result (λ inputs. All (λ actor. actor ≤ inputs.setup.processors) inputs.schedule.items) }
+    ensures playable { IfOk result (λ inputs. IsPlayable (plan (data_of inputs.setup) inputs.image inputs.schedule.items)) }
+    ensures due { IfOk result (λ inputs. IsDue (told_due (texts words.now.items) (F.files store.old)) (plan (data_of inputs.setup) inputs.image inputs.schedule.items)) }
     ensures cause { IfErr result (HasCause (told_due (texts words.now.items) (F.files store.old)) (Rose (F.failed_loads store.old) (F.failed_loads store.new))) }
     ensures files_stay { F.files store.new ≡ F.files store.old }
     ensures loads_never_fall { F.failed_loads store.old ≤ F.failed_loads store.new }
     ensures saves_never_fall { F.failed_saves store.old ≤ F.failed_saves store.new }
 {
-    let value = load_platform(alloc, words, store)?;
-    let image = load_images(alloc, words, store)?;
-    let schedule = load_schedule(alloc, words, store)?;
+    let setup = load_platform(alloc, words, store)?;
+    let image = load_images(alloc, words, store, setup.kind)?;
+    let schedule = load_schedule(alloc, words, store, setup.processors)?;
     Ok(Inputs {
-        value,
+        setup,
         image,
         schedule,
     })

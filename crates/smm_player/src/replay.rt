@@ -1,10 +1,11 @@
-ghost use Rattle.std.specs.Prelude.{◌≡◌, ◌≤◌, [], ◌∷◌, All, IfErr, IfOk, Some, OnErr, OnOk, IsErrOf, map, string_bytes};
+ghost use Rattle.std.specs.Prelude.{◌≡◌, ◌≤◌, ◌<◌, [], ◌∷◌, All, IfErr, IfOk, Some, OnErr, OnOk, IsErrOf, map, string_bytes};
 ghost use Rattle.smm_base.specs.Faults.{Rose};
 ghost use Rattle.smm_base.specs.Sink.{appended, GainsPrefix};
 ghost use Rattle.smm_base.specs.Store.{ChangesOnly};
-ghost use Rattle.smm_base.specs.declared.kinds.MapKind.TheVariants.{Intel64};
+ghost use Rattle.cpu_table.specs.Data.{data_of};
+ghost use Rattle.rendezvous_core.specs.Setups.{platform_of};
 ghost use Rattle.rendezvous_core.specs.Worlds.{is_complete, last_image};
-ghost use Rattle.smm_player.specs.Plan.{plan, events_of, world_of, report_of, file_of, Saves};
+ghost use Rattle.smm_player.specs.Plan.{plan, IsPlayable, events_of, world_of, report_of, file_of, Saves};
 ghost use Rattle.smm_player.specs.Report.{report_text};
 ghost use Rattle.smm_player.specs.Replay.{EndsReplay, UnlessSaved, SaveFault};
 ghost use Rattle.smm_player.specs.Words.{texts, after_name};
@@ -14,28 +15,21 @@ use crate::load::Inputs;
 use crate::report::write_report;
 use crate::words::save_name;
 use image_file::write_images;
-use rendezvous_core::World;
+use rendezvous_core::{World, WorldError, replay};
 use save_state_map::Image;
 use smm_base::{NoMemory, SaveError, Sink, Store, WriteError};
 use std::alloc::Global;
 
-// The world after a schedule, with the events that led to it.
-pub(crate) fn run(
-    alloc: Global,
-    value: Option<u64>,
-    image: &Image,
-    schedule: &[u16],
-) -> Result<World, NoMemory>
-    requires kind { image.now.kind ≡ Intel64 }
-    requires known { All (λ actor. actor ≤ 1) schedule.now }
-    ensures events { IfOk result (λ world. world.events ≡ events_of (plan value image.now schedule.now)) }
-    ensures world { IfOk result (λ world. world.world ≡ world_of (plan value image.now schedule.now)) }
+// The world after the replay of the inputs, with the events that led to it.
+fn world_after(alloc: Global, inputs: &Inputs) -> Result<World, WorldError>
+    requires playable { IsPlayable (plan (data_of inputs.now.setup) inputs.now.image inputs.now.schedule.items) }
+    requires known { All (λ actor. actor ≤ inputs.now.setup.processors) inputs.now.schedule.items }
+    ensures events { IfOk result (λ world. world.events ≡ events_of (plan (data_of inputs.now.setup) inputs.now.image inputs.now.schedule.items)) }
+    ensures world { IfOk result (λ world. world.world ≡ world_of (plan (data_of inputs.now.setup) inputs.now.image inputs.now.schedule.items)) }
+    ensures platform { IfOk result (λ world. world.platform ≡ platform_of (data_of inputs.now.setup)) }
 {
-    let mut world = World::one(alloc, value, image, schedule.len())?;
-    for actor in schedule {
-        let _ = world.step(*actor);
-    }
-    Ok(world)
+    let images = Vec::from_slice(alloc, &[inputs.image])?;
+    replay(alloc, &inputs.setup, &images, &inputs.schedule)
 }
 
 // The file of one image.
@@ -74,20 +68,22 @@ fn save_image<F: Store>(
 fn conclude<F: Store, K: Sink>(
     alloc: Global,
     words: &Vec<String>,
+    processors: u16,
     world: &World,
     store: &mut F,
     out: &mut K,
 ) -> Result<(), Fault>
-    ensures written { OnOk result (K.written out.new ≡ appended (K.written out.old) (report_text 1 world.now.events (is_complete world.now.world))) }
+    requires { 0 < world.now.platform.processors }
+    ensures written { OnOk result (K.written out.new ≡ appended (K.written out.old) (report_text processors world.now.events (is_complete world.now.world))) }
     ensures saved { OnOk result (Saves (texts words.now.items) (F.files store.new) (last_image world.now.world 0)) }
-    ensures ends { IfErr result (EndsReplay (Rose (K.faults out.old) (K.faults out.new)) (Rose (F.failed_saves store.old) (F.failed_saves store.new)) (K.written out.old) (K.written out.new) (report_text 1 world.now.events (is_complete world.now.world))) }
+    ensures ends { IfErr result (EndsReplay (Rose (K.faults out.old) (K.faults out.new)) (Rose (F.failed_saves store.old) (F.failed_saves store.new)) (K.written out.old) (K.written out.new) (report_text processors world.now.events (is_complete world.now.world))) }
     ensures unsaved { IfErr result (UnlessSaved (F.files store.new ≡ F.files store.old)) }
     ensures others_stay { ChangesOnly (after_name (texts words.now.items)) (F.files store.old) (F.files store.new) }
     ensures loads_never_fall { F.failed_loads store.old ≤ F.failed_loads store.new }
     ensures saves_never_fall { F.failed_saves store.old ≤ F.failed_saves store.new }
     ensures writes_never_fall { K.faults out.old ≤ K.faults out.new }
 {
-    match write_report(alloc, 1, world.events(), world.complete(), out) {
+    match write_report(alloc, processors, world.events(), world.complete(), out) {
         Ok(()) => save_image(alloc, words, world.after(0), store),
         Err(WriteError::Failed) => Err(Fault::Write),
         Err(WriteError::NoMemory) => Err(Fault::Memory),
@@ -95,26 +91,26 @@ fn conclude<F: Store, K: Sink>(
 }
 
 // Replays a schedule, writes its report, and saves the image after.
-pub(crate) fn replay<F: Store, K: Sink>(
+pub(crate) fn replay_inputs<F: Store, K: Sink>(
     alloc: Global,
     words: &Vec<String>,
     inputs: &Inputs,
     store: &mut F,
     out: &mut K,
 ) -> Result<(), Fault>
-    requires kind { inputs.now.image.kind ≡ Intel64 }
-    requires known { All (λ actor. actor ≤ 1) inputs.now.schedule.items }
-    ensures written { OnOk result (K.written out.new ≡ appended (K.written out.old) (report_of (plan inputs.now.value inputs.now.image inputs.now.schedule.items))) }
-    ensures saved { OnOk result (Saves (texts words.now.items) (F.files store.new) (last_image (world_of (plan inputs.now.value inputs.now.image inputs.now.schedule.items)) 0)) }
-    ensures ends { IfErr result (EndsReplay (Rose (K.faults out.old) (K.faults out.new)) (Rose (F.failed_saves store.old) (F.failed_saves store.new)) (K.written out.old) (K.written out.new) (report_of (plan inputs.now.value inputs.now.image inputs.now.schedule.items))) }
+    requires playable { IsPlayable (plan (data_of inputs.now.setup) inputs.now.image inputs.now.schedule.items) }
+    requires known { All (λ actor. actor ≤ inputs.now.setup.processors) inputs.now.schedule.items }
+    ensures written { OnOk result (K.written out.new ≡ appended (K.written out.old) (report_of (plan (data_of inputs.now.setup) inputs.now.image inputs.now.schedule.items))) }
+    ensures saved { OnOk result (Saves (texts words.now.items) (F.files store.new) (last_image (world_of (plan (data_of inputs.now.setup) inputs.now.image inputs.now.schedule.items)) 0)) }
+    ensures ends { IfErr result (EndsReplay (Rose (K.faults out.old) (K.faults out.new)) (Rose (F.failed_saves store.old) (F.failed_saves store.new)) (K.written out.old) (K.written out.new) (report_of (plan (data_of inputs.now.setup) inputs.now.image inputs.now.schedule.items))) }
     ensures unsaved { IfErr result (UnlessSaved (F.files store.new ≡ F.files store.old)) }
     ensures others_stay { ChangesOnly (after_name (texts words.now.items)) (F.files store.old) (F.files store.new) }
     ensures loads_never_fall { F.failed_loads store.old ≤ F.failed_loads store.new }
     ensures saves_never_fall { F.failed_saves store.old ≤ F.failed_saves store.new }
     ensures writes_never_fall { K.faults out.old ≤ K.faults out.new }
 {
-    match run(alloc, inputs.value, &inputs.image, &inputs.schedule) {
-        Ok(world) => conclude(alloc, words, &world, store, out),
+    match world_after(alloc, inputs) {
+        Ok(world) => conclude(alloc, words, inputs.setup.processors, &world, store, out),
         Err(_) => Err(Fault::Memory),
     }
 }

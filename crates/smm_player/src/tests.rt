@@ -1,8 +1,4 @@
-use crate::load::image_of;
 use crate::play;
-use crate::replay::run;
-use crate::schedule::read_schedule;
-use save_state_map::Field;
 use smm_base::{MemSink, MemStore, NoMemory};
 use std::alloc::Global;
 use std::test::Fail;
@@ -21,7 +17,47 @@ status = [\"prompt\"]
 manage = [\"root\"]
 ";
 
-const REPORT: &str = "chip except put:0 0 excepted:0
+const HANDLER: &str = "
+[[handler]]
+name = \"h0\"
+type = \"root\"
+answer = \"SUCCESS\"
+ops = [{op = \"write\", cpu = 0, reg = \"RAX\", width = 8, value = 5627}]
+";
+
+const HALTED: &str = "
+[[cause]]
+cpu = 0
+visit = 1
+halt = true
+";
+
+// Two processors, two waves, the relaxed mode, and another operation.
+const LATER: &str = "version = 1
+processors = 2
+map = \"intel64\"
+policy = \"elected\"
+mode = \"relaxed\"
+polls = [8, 8]
+visits = 3
+ops = 64
+
+[[wave]]
+status = [\"prompt\", \"prompt\"]
+manage = [\"root\"]
+
+[[wave]]
+status = [\"prompt\", \"delayed\"]
+manage = [\"root\"]
+
+[[handler]]
+name = \"h0\"
+type = \"root\"
+answer = \"SUCCESS\"
+ops = [{op = \"manage\", type = \"root\"}]
+";
+
+const FRONT: &str = "chip except put:0 0 excepted:0
 chip source put:1 0 wave:1
 chip pend0 raise:1 0 -
 p0 pend0 take 1 enter
@@ -46,17 +82,21 @@ p0 bsp put:16777215 0 -
 p0 insync put:0 1 -
 p0 counter put:0 16777215 end
 p0 insync await:0:0 0 -
-p0 pend0 clear 12 resume:next
+";
+
+const BACK: &str = "p0 pend0 clear 12 resume:next
 p0 pend0 take 4 off
 complete events 27 sessions 1 unserved 0
 ";
 
-const HANDLER: &str = "
-[[handler]]
-name = \"h0\"
-type = \"root\"
-answer = \"SUCCESS\"
-ops = [{op = \"write\", cpu = 0, reg = \"RAX\", width = 8, value = 5627}]
+const BACK_WITH_ONE_VISIT: &str = "p0 pend0 clear 12 resume:next
+p0 pend0 put:4 4 off
+complete events 27 sessions 1 unserved 0
+";
+
+const BACK_TO_HALT: &str = "p0 pend0 clear 12 resume:halt
+p0 pend0 take 4 off
+complete events 27 sessions 1 unserved 0
 ";
 
 const HANDLER_REPORT: &str = "chip except put:0 0 excepted:0
@@ -103,10 +143,30 @@ p0 bsp claim:16777215:0 16777215 elect
 unfinished events 8 sessions 0 unserved 1
 ";
 
-// The file of one zero image.
+const WHOLE: &str = "1*3 0*15 1*3 0*6";
+
+const WHOLE_WITH_HANDLER: &str = "1*3 0*18 1*3 0*6";
+
+// A file of images without a byte other than 0.
+fn zeros(alloc: Global, kind: u8, count: u8, size: usize) -> Result<Vec<u8>, NoMemory> {
+    let mut bytes = Vec::from_slice(
+        alloc,
+        &[0x53, 0x4D, 0x49, 0x4D, 1, 0, kind, 0, count, 0, 0, 0],
+    )?;
+    bytes.resize(size, 0)?;
+    Ok(bytes)
+}
+
+// A byte of a file changed.
+fn set(bytes: &mut Vec<u8>, place: usize, byte: u8) {
+    if let Some(changed) = bytes.as_mut_slice().get_mut(place) {
+        *changed = byte;
+    }
+}
+
+// The file of one image that has its SMBASE and its revision.
 fn images(alloc: Global) -> Result<Vec<u8>, NoMemory> {
-    let mut bytes = Vec::from_slice(alloc, &[0x53, 0x4D, 0x49, 0x4D, 1, 0, 1, 0, 1, 0, 0, 0])?;
-    bytes.resize(772, 0)?;
+    let mut bytes = zeros(alloc, 1, 1, 772)?;
     bytes.extend_from_slice(&[0, 0, 3, 0, 4, 0, 3, 0])?;
     bytes.resize(1036, 0)?;
     Ok(bytes)
@@ -115,27 +175,17 @@ fn images(alloc: Global) -> Result<Vec<u8>, NoMemory> {
 // The file of one image with one byte changed.
 fn images_with(alloc: Global, place: usize, byte: u8) -> Result<Vec<u8>, NoMemory> {
     let mut bytes = images(alloc)?;
-    if let Some(changed) = bytes.as_mut_slice().get_mut(place) {
-        *changed = byte;
+    set(&mut bytes, place, byte);
+    Ok(bytes)
+}
+
+// Texts in a row.
+fn texts(alloc: Global, texts: &[&str]) -> Result<Vec<u8>, NoMemory> {
+    let mut all = Vec::new(alloc);
+    for text in texts {
+        all.extend_from_slice(text.as_bytes())?;
     }
-    Ok(bytes)
-}
-
-// The platform with a handler.
-fn handler_platform(alloc: Global) -> Result<Vec<u8>, NoMemory> {
-    let mut bytes = Vec::from_slice(alloc, PLATFORM.as_bytes())?;
-    bytes.extend_from_slice(HANDLER.as_bytes())?;
-    Ok(bytes)
-}
-
-// A store with the platforms, the images and a schedule.
-fn store(alloc: Global, schedule: &str) -> Result<MemStore, NoMemory> {
-    let mut store = MemStore::new(alloc)?;
-    store.put("P", PLATFORM.as_bytes())?;
-    store.put("H", &handler_platform(alloc)?)?;
-    store.put("I", &images(alloc)?)?;
-    store.put("S", schedule.as_bytes())?;
-    Ok(store)
+    Ok(all)
 }
 
 // The words of a line.
@@ -147,33 +197,83 @@ fn words(alloc: Global, line: &str) -> Result<Vec<String>, NoMemory> {
     Ok(words)
 }
 
+// What a command comes to.
+#[derive(Drop)]
+struct Outcome {
+    status: u8,
+    told: Vec<u8>,
+    after: Vec<u8>,
+}
+
+// Three files are played. Where no image is saved, there is no byte after.
+fn played(
+    alloc: Global,
+    platform: &[u8],
+    images: &[u8],
+    schedule: &[u8],
+) -> Result<Outcome, NoMemory> {
+    let mut store = MemStore::new(alloc)?;
+    store.put("P", platform)?;
+    store.put("I", images)?;
+    store.put("S", schedule)?;
+    let mut sink = MemSink::new(alloc, 4096, Vec::new(alloc))?;
+    let status = play(alloc, &words(alloc, "step P I S A")?, &mut store, &mut sink);
+    let after = store.file("A").unwrap_or(&[]);
+    Ok(Outcome {
+        status,
+        told: Vec::from_slice(alloc, sink.bytes().as_slice())?,
+        after: Vec::from_slice(alloc, after)?,
+    })
+}
+
+// The platform with a part of its text changed is played.
+fn played_with(alloc: Global, part: &str, other: &str) -> Result<Outcome, NoMemory> {
+    let platform = PLATFORM.replacen(alloc, part, other, 1)?;
+    played(
+        alloc,
+        platform.as_bytes(),
+        &images(alloc)?,
+        WHOLE.as_bytes(),
+    )
+}
+
 #[test]
 fn one_interrupt_is_served_and_the_images_are_saved(rt: HostRuntime) -> Result<(), Fail> {
     let alloc = rt.alloc();
-    let mut store = store(alloc, "1*3 0*15 1*3 0*6")?;
-    let mut sink = MemSink::new(alloc, 10, Vec::new(alloc))?;
-    let status = play(alloc, &words(alloc, "step P I S A")?, &mut store, &mut sink);
-    assert_eq!(rt; status, 0);
-    assert_eq!(rt; sink.bytes().as_slice(), REPORT.as_bytes());
-    assert_eq!(rt; store.file("A"), Some(images(alloc)?.as_slice()));
+    let images = images(alloc)?;
+    let outcome = played(alloc, PLATFORM.as_bytes(), &images, WHOLE.as_bytes())?;
+    assert_eq!(rt; outcome.status, 0);
+    assert_eq!(rt;
+        outcome.told.as_slice(),
+        texts(alloc, &[FRONT, BACK])?.as_slice()
+    );
+    assert_eq!(rt; outcome.after.as_slice(), images.as_slice());
     Ok(())
 }
 
 #[test]
 fn a_schedule_may_end_early(rt: HostRuntime) -> Result<(), Fail> {
     let alloc = rt.alloc();
-    let mut store = store(alloc, "1*3 0*5")?;
-    let mut sink = MemSink::new(alloc, 4096, Vec::new(alloc))?;
-    let status = play(alloc, &words(alloc, "step P I S A")?, &mut store, &mut sink);
-    assert_eq!(rt; status, 0);
-    assert_eq!(rt; sink.bytes().as_slice(), START.as_bytes());
+    let outcome = played(alloc, PLATFORM.as_bytes(), &images(alloc)?, b"1*3 0*5")?;
+    assert_eq!(rt; outcome.status, 0);
+    assert_eq!(rt; outcome.told.as_slice(), START.as_bytes());
     Ok(())
+}
+
+// A store with a platform, the images and a schedule.
+fn store(alloc: Global) -> Result<MemStore, NoMemory> {
+    let mut store = MemStore::new(alloc)?;
+    store.put("P", PLATFORM.as_bytes())?;
+    store.put("L", LATER.as_bytes())?;
+    store.put("I", &images(alloc)?)?;
+    store.put("S", b"1*3 0*5")?;
+    Ok(store)
 }
 
 #[test]
 fn a_write_that_fails_ends_the_command(rt: HostRuntime) -> Result<(), Fail> {
     let alloc = rt.alloc();
-    let mut store = store(alloc, "1*3 0*5")?;
+    let mut store = store(alloc)?;
     let mut sink = MemSink::new(alloc, 10, vec![in alloc; 2]?)?;
     let status = play(alloc, &words(alloc, "step P I S A")?, &mut store, &mut sink);
     assert_eq!(rt; status, 7);
@@ -188,15 +288,16 @@ fn each_fault_has_its_line(rt: HostRuntime) -> Result<(), Fail> {
     let rows = [
         ("step a b", 1, "fault usage\n"),
         ("step P I S -A", 1, "fault usage\n"),
-        ("step X I S A", 6, "fault read X\n"),
-        ("step P X S A", 6, "fault read X\n"),
+        ("step X X X A", 6, "fault read X\n"),
+        ("step P X X A", 6, "fault read X\n"),
         ("step P I X A", 6, "fault read X\n"),
-        ("step S I S A", 9, "fault not-built S\n"),
-        ("step P S S A", 3, "fault images short 7\n"),
-        ("step P I P A", 9, "fault not-built P\n"),
+        ("step S X X A", 2, "fault platform not-toml\n"),
+        ("step L X X A", 9, "fault not-built L\n"),
+        ("step P S X A", 3, "fault images short 7\n"),
+        ("step P I P A", 4, "fault schedule token 0\n"),
     ];
     for (line, want, text) in rows {
-        let mut store = store(alloc, "1*3 0*5")?;
+        let mut store = store(alloc)?;
         let mut sink = MemSink::new(alloc, 10, Vec::new(alloc))?;
         let status = play(alloc, &words(alloc, line)?, &mut store, &mut sink);
         assert_eq!(rt; status, want, "{line}");
@@ -208,70 +309,174 @@ fn each_fault_has_its_line(rt: HostRuntime) -> Result<(), Fail> {
 #[test]
 fn a_handler_writes_a_register(rt: HostRuntime) -> Result<(), Fail> {
     let alloc = rt.alloc();
-    let mut store = store(alloc, "1*3 0*18 1*3 0*6")?;
-    let mut sink = MemSink::new(alloc, 4096, Vec::new(alloc))?;
-    let status = play(alloc, &words(alloc, "step H I S A")?, &mut store, &mut sink);
-    assert_eq!(rt; status, 0);
-    assert_eq!(rt; sink.bytes().as_slice(), HANDLER_REPORT.as_bytes());
+    let platform = texts(alloc, &[PLATFORM, HANDLER])?;
+    let schedule = WHOLE_WITH_HANDLER.as_bytes();
+    let outcome = played(alloc, &platform, &images(alloc)?, schedule)?;
+    assert_eq!(rt; outcome.status, 0);
+    assert_eq!(rt; outcome.told.as_slice(), HANDLER_REPORT.as_bytes());
     let mut after = images_with(alloc, 872, 0xFB)?;
-    if let Some(changed) = after.as_mut_slice().get_mut(873) {
-        *changed = 0x15;
-    }
-    assert_eq!(rt; store.file("A"), Some(after.as_slice()));
+    set(&mut after, 873, 0x15);
+    assert_eq!(rt; outcome.after.as_slice(), after.as_slice());
     Ok(())
 }
 
 #[test]
 fn an_io_instruction_is_not_restarted(rt: HostRuntime) -> Result<(), Fail> {
     let alloc = rt.alloc();
-    let mut store = store(alloc, "1*3 0*15 1*3 0*6")?;
-    store.put("B", &images_with(alloc, 780, 0xFF)?)?;
-    let mut sink = MemSink::new(alloc, 4096, Vec::new(alloc))?;
-    let status = play(alloc, &words(alloc, "step P B S A")?, &mut store, &mut sink);
-    assert_eq!(rt; status, 0);
-    assert_eq!(rt; sink.bytes().as_slice(), REPORT.as_bytes());
-    assert_eq!(rt; store.file("A"), Some(images(alloc)?.as_slice()));
+    let restarted = images_with(alloc, 780, 0xFF)?;
+    let outcome = played(alloc, PLATFORM.as_bytes(), &restarted, WHOLE.as_bytes())?;
+    assert_eq!(rt;
+        outcome.told.as_slice(),
+        texts(alloc, &[FRONT, BACK])?.as_slice()
+    );
+    assert_eq!(rt; outcome.after.as_slice(), images(alloc)?.as_slice());
     Ok(())
 }
 
-// The number in RAX after a handler has written a number there.
-fn rax_after(alloc: Global, value: u64) -> Result<Option<u64>, NoMemory> {
-    let actors = read_schedule(alloc, b"1*3 0*18 1*3 0*6")?;
-    let image = image_of(alloc, &images(alloc)?);
-    if let (Some(actors), Ok(image)) = (actors, image) {
-        let world = run(alloc, Some(value), &image, &actors)?;
-        Ok(world.after(0).field(Field::Rax))
-    } else {
-        Ok(None)
-    }
+#[test]
+fn a_halted_processor_halts_again(rt: HostRuntime) -> Result<(), Fail> {
+    let alloc = rt.alloc();
+    let platform = texts(alloc, &[PLATFORM, HALTED])?;
+    let outcome = played(alloc, &platform, &images(alloc)?, WHOLE.as_bytes())?;
+    assert_eq!(rt; outcome.status, 0);
+    assert_eq!(rt;
+        outcome.told.as_slice(),
+        texts(alloc, &[FRONT, BACK_TO_HALT])?.as_slice()
+    );
+    assert_eq!(rt;
+        outcome.after.as_slice(),
+        images_with(alloc, 782, 1)?.as_slice()
+    );
+    Ok(())
+}
+
+#[test]
+fn the_last_visit_takes_no_further_interrupt(rt: HostRuntime) -> Result<(), Fail> {
+    let alloc = rt.alloc();
+    let outcome = played_with(alloc, "visits = 3", "visits = 1")?;
+    assert_eq!(rt; outcome.status, 0);
+    assert_eq!(rt;
+        outcome.told.as_slice(),
+        texts(alloc, &[FRONT, BACK_WITH_ONE_VISIT])?.as_slice()
+    );
+    Ok(())
+}
+
+#[test]
+fn images_of_the_small_map_are_played(rt: HostRuntime) -> Result<(), Fail> {
+    let alloc = rt.alloc();
+    let platform = PLATFORM.replacen(alloc, "intel64", "ia32", 1)?;
+    let images = zeros(alloc, 0, 1, 524)?;
+    let outcome = played(alloc, platform.as_bytes(), &images, WHOLE.as_bytes())?;
+    assert_eq!(rt; outcome.status, 0);
+    assert_eq!(rt;
+        outcome.told.as_slice(),
+        texts(alloc, &[FRONT, BACK])?.as_slice()
+    );
+    assert_eq!(rt; outcome.after.as_slice(), images.as_slice());
+    Ok(())
 }
 
 #[test]
 fn a_handler_may_write_any_number(rt: HostRuntime) -> Result<(), Fail> {
-    for value in [0, 1, u64::MAX] {
-        assert_eq!(rt; rax_after(rt.alloc(), value)?, Some(value));
+    let alloc = rt.alloc();
+    for (number, low, high) in [
+        ("0", 0, 0),
+        ("1", 1, 0),
+        ("9223372036854775807", 0xFF, 0x7F),
+    ] {
+        let handler = HANDLER.replacen(alloc, "5627", number, 1)?;
+        let platform = texts(alloc, &[PLATFORM, handler.as_str()])?;
+        let schedule = WHOLE_WITH_HANDLER.as_bytes();
+        let after = played(alloc, &platform, &images(alloc)?, schedule)?.after;
+        assert_eq!(rt; after.get(872), Some(&low));
+        assert_eq!(rt; after.get(879), Some(&high));
     }
     Ok(())
 }
 
-// The images with one byte changed are played by one schedule; the status, and the report.
-fn with_byte(rt: HostRuntime, place: usize, byte: u8) -> Result<(u8, Vec<u8>), Fail> {
-    let bytes = images_with(rt.alloc(), place, byte)?;
-    with_images(rt, &bytes)
+#[test]
+fn changed_platforms_are_refused(rt: HostRuntime) -> Result<(), Fail> {
+    let alloc = rt.alloc();
+    for (part, other, line) in [
+        ("version = 1", "version", "fault platform not-toml\n"),
+        (
+            "visits = 3",
+            "visits = 0",
+            "fault platform range visits 0\n",
+        ),
+        (
+            "visits = 3",
+            "visits = -5",
+            "fault platform range visits -5\n",
+        ),
+        ("[8, 8]", "[8]", "fault platform range polls 1\n"),
+        (
+            "mode = \"traditional\"\n",
+            "",
+            "fault platform missing mode\n",
+        ),
+        ("intel64", "amd64", "fault platform word map\n"),
+        ("64\n\n", "\"64\"\n\n", "fault platform type ops\n"),
+        (
+            "[\"prompt\"]",
+            "[\"prompt\", \"prompt\"]",
+            "fault platform range wave[0].status 2\n",
+        ),
+        (
+            "\n[[wave]]",
+            "colour = 1\n[[wave]]",
+            "fault platform unknown colour\n",
+        ),
+        (
+            "mode = \"traditional\"\npolls = [8, 8]\nvisits = 3\n",
+            "polls = [8, 8]\nvisits = 0\n",
+            "fault platform missing mode\n",
+        ),
+    ] {
+        let outcome = played_with(alloc, part, other)?;
+        assert_eq!(rt; outcome.status, 2, "{line}");
+        assert_eq!(rt; outcome.told.as_slice(), line.as_bytes());
+        assert!(rt; outcome.after.is_empty());
+    }
+    Ok(())
 }
 
-fn with_images(rt: HostRuntime, bytes: &[u8]) -> Result<(u8, Vec<u8>), Fail> {
+// A platform of 64 processors, with so many looks of the second round.
+fn large(alloc: Global, polls: &str) -> Result<Vec<u8>, NoMemory> {
+    let mut platform = texts(
+        alloc,
+        &[
+            "version = 1\nprocessors = 64\nmap = \"intel64\"\npolicy = \"elected\"\n",
+            "mode = \"traditional\"\npolls = [300, ",
+            polls,
+            "]\nvisits = 3\nops = 4096\n\n[[wave]]\nstatus = [",
+        ],
+    )?;
+    for _ in 0..64 {
+        platform.extend_from_slice(b"\"prompt\", ")?;
+    }
+    platform.extend_from_slice(b"]\nmanage = [\"root\"]\n")?;
+    Ok(platform)
+}
+
+#[test]
+fn a_platform_may_be_too_large(rt: HostRuntime) -> Result<(), Fail> {
     let alloc = rt.alloc();
-    let mut store = store(alloc, "")?;
-    store.put("B", bytes)?;
-    let mut sink = MemSink::new(alloc, 4096, Vec::new(alloc))?;
-    let status = play(alloc, &words(alloc, "step P B S A")?, &mut store, &mut sink);
-    let told = Vec::from_slice(alloc, sink.bytes().as_slice())?;
-    Ok((status, told))
+    for (polls, status, line) in [
+        ("50", 2, "fault platform too-large 4194450\n"),
+        ("49", 9, "fault not-built P\n"),
+    ] {
+        let outcome = played(alloc, &large(alloc, polls)?, b"", b"")?;
+        assert_eq!(rt; outcome.status, status);
+        assert_eq!(rt; outcome.told.as_slice(), line.as_bytes());
+    }
+    Ok(())
 }
 
 #[test]
 fn images_of_another_form_are_refused(rt: HostRuntime) -> Result<(), Fail> {
+    let alloc = rt.alloc();
     for (place, byte, line) in [
         (3, 0, "fault images magic\n"),
         (4, 2, "fault images version 2\n"),
@@ -280,9 +485,10 @@ fn images_of_another_form_are_refused(rt: HostRuntime) -> Result<(), Fail> {
         (8, 65, "fault images count 65\n"),
         (8, 2, "fault images short 1036\n"),
     ] {
-        let (status, told) = with_byte(rt, place, byte)?;
-        assert_eq!(rt; status, 3, "{line}");
-        assert_eq!(rt; told.as_slice(), line.as_bytes());
+        let images = images_with(alloc, place, byte)?;
+        let outcome = played(alloc, PLATFORM.as_bytes(), &images, b"")?;
+        assert_eq!(rt; outcome.status, 3, "{line}");
+        assert_eq!(rt; outcome.told.as_slice(), line.as_bytes());
     }
     Ok(())
 }
@@ -297,40 +503,29 @@ fn images_for_another_platform_are_refused(rt: HostRuntime) -> Result<(), Fail> 
         (0, 2, 1036, "fault images kind-differs\n"),
         (1, 2, 2060, "fault images count-differs 1 2\n"),
     ] {
-        let mut bytes = Vec::from_slice(
-            alloc,
-            &[0x53, 0x4D, 0x49, 0x4D, 1, 0, kind, 0, count, 0, 0, 0],
-        )?;
-        bytes.resize(size, 0)?;
-        let (status, told) = with_images(rt, &bytes)?;
-        assert_eq!(rt; status, 3, "{line}");
-        assert_eq!(rt; told.as_slice(), line.as_bytes());
+        let images = zeros(alloc, kind, count, size)?;
+        let outcome = played(alloc, PLATFORM.as_bytes(), &images, b"0*")?;
+        assert_eq!(rt; outcome.status, 3, "{line}");
+        assert_eq!(rt; outcome.told.as_slice(), line.as_bytes());
     }
     Ok(())
 }
 
 #[test]
-fn a_platform_without_its_last_line_end_is_not_built(rt: HostRuntime) -> Result<(), Fail> {
+fn schedules_of_another_form_are_refused(rt: HostRuntime) -> Result<(), Fail> {
     let alloc = rt.alloc();
-    let mut store = store(alloc, "")?;
-    store.put("Q", &PLATFORM.as_bytes()[..PLATFORM.len() - 1])?;
-    let mut sink = MemSink::new(alloc, 64, Vec::new(alloc))?;
-    let status = play(alloc, &words(alloc, "step Q I S A")?, &mut store, &mut sink);
-    assert_eq!(rt; status, 9);
-    assert_eq!(rt; sink.bytes().as_slice(), b"fault not-built Q\n".as_slice());
-    Ok(())
-}
-
-#[test]
-fn a_schedule_of_another_form_is_not_built(rt: HostRuntime) -> Result<(), Fail> {
-    let alloc = rt.alloc();
-    for schedule in [
-        " ", "0 ", " 0", "0  1", "2", "01", "0*0", "0*01", "0*100", "0*", "0 1\n",
+    let mut many = Vec::new(alloc);
+    for _ in 0..33 {
+        many.extend_from_slice(b"all*65535 ")?;
+    }
+    for (schedule, line) in [
+        (b"0*".as_slice(), "fault schedule token 0\n"),
+        (b" 1 2", "fault schedule actor 3 2\n"),
+        (many.as_slice(), "fault schedule too-long\n"),
     ] {
-        let mut store = store(alloc, schedule)?;
-        let mut sink = MemSink::new(alloc, 64, Vec::new(alloc))?;
-        let status = play(alloc, &words(alloc, "step P I S A")?, &mut store, &mut sink);
-        assert_eq!(rt; status, 9, "{schedule}");
+        let outcome = played(alloc, PLATFORM.as_bytes(), &images(alloc)?, schedule)?;
+        assert_eq!(rt; outcome.status, 4, "{line}");
+        assert_eq!(rt; outcome.told.as_slice(), line.as_bytes());
     }
     Ok(())
 }

@@ -1,19 +1,19 @@
 -- At a fault each clause follows fault by fault.
-use Rattle.std.proofs.Common.{◌<◌, arith}
+use Rattle.std.proofs.Common.{[], ◌∷◌}
 use Rattle.smm_base.specs.Faults.{Rose}
-use Rattle.smm_player.specs.Plan.{Plan, platform_of}
+use Rattle.smm_player.specs.Plan.{Plan, IsPlayable}
 use Rattle.smm_player.specs.Words.{texts}
-use Rattle.smm_player.proofs.PlayLemmas.{done_played, end_status, end_exits, end_not_0, end_usage_only, end_usage, end_faulted, end_due, end_complete, end_outside, end_runs_out, end_unsaved, stops_wider, Rose-later, Rose-further}
+use Rattle.smm_player.proofs.PlayLemmas.{done_played, end_status, end_exits, end_not_0, end_usage_only, end_usage, end_faulted, end_due, end_complete, end_outside, end_runs_out, end_unsaved, stops_wider}
+use Rattle.smm_player.proofs.LoadLemmas.{Rose-later, Rose-further}
 use Rattle.smm_player.proofs.command.play.Goals as goal
 
 pub returns-in-Ok-clause-played : goal.returns-in-Ok-clause-played
 returns-in-Ok-clause-played g c =
     let laws = c.every_schedule.ensures in
-    let visits : 0 < 3 = omega arith in
     λ zero. done_played _ _ _ _ _ c.in-Ok.ensures.form c.in-Ok.ensures.done
-    (λ (p : Plan). laws.run 8 8 3 64 (platform_of p).waves (platform_of p).handlers p.image p.actors visits (omega arith))
-    (λ (p : Plan). laws.after 8 8 3 64 (platform_of p).waves (platform_of p).handlers p.image p.actors visits (omega arith))
-    laws.resumed
+    (λ (p : Plan) (h : IsPlayable p). laws.built_run p.setup (p.image ∷ []) p.actors h.built h.visits h.images)
+    (λ (p : Plan) (h : IsPlayable p). laws.built_after p.setup (p.image ∷ []) p.actors h.built h.visits h.images)
+    laws.resumed laws.kind
 
 pub returns-in-Err-clause-status : goal.returns-in-Err-clause-status
 returns-in-Err-clause-status g c = end_exits c.finish.result c.in-Err.fault (end_status (Rose (g.K.Sink.faults c.perform.new.out) (g.K.Sink.faults c.finish.new.out)) (g.K.Sink.written c.perform.new.out) (g.K.Sink.written c.finish.new.out) (texts c.args.words.now.items) c.finish.result c.in-Err.fault c.finish.ensures.finishes)

@@ -1,0 +1,17 @@
+use Rattle.cpu_table.specs.Data.{data_of}
+use Rattle.smm_player.specs.Plan.{plan}
+use Rattle.smm_player.proofs.ReplayLemmas.{report_is}
+use Rattle.smm_player.proofs.replay.replay_inputs.Goals as goal
+
+pub returns-in-Ok-clause-written : goal.returns-in-Ok-clause-written
+returns-in-Ok-clause-written g c =
+    let is = report_is (plan (data_of c.args.inputs.now.setup) c.args.inputs.now.image c.args.inputs.now.schedule.items) c.in-Ok.world.events c.in-Ok.world.world c.in-Ok.ensures.events c.in-Ok.ensures.world in
+    rw (← is) c.conclude.ensures.written
+
+pub returns-in-Ok-clause-ends : goal.returns-in-Ok-clause-ends
+returns-in-Ok-clause-ends g c =
+    let is = report_is (plan (data_of c.args.inputs.now.setup) c.args.inputs.now.image c.args.inputs.now.schedule.items) c.in-Ok.world.events c.in-Ok.world.world c.in-Ok.ensures.events c.in-Ok.ensures.world in
+    rw (← is) c.conclude.ensures.ends
+
+pub returns-in-Ok-clause-saved : goal.returns-in-Ok-clause-saved
+returns-in-Ok-clause-saved g c = rw (← c.in-Ok.ensures.world) c.conclude.ensures.saved
