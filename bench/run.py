@@ -1,11 +1,9 @@
 #!/usr/bin/env python3
-"""Times the proved program on large inputs: wall time and peak memory of each run, least of five turns.
+"""Times the proved program on large inputs: the least wall time of five turns and the greatest peak of memory that was seen.
 
 Use: bench/run.py, after the program was built (run smmplay once). It needs Python 3 on Linux.
 """
-import os
 import pathlib
-import resource
 import subprocess
 import sys
 import tempfile
@@ -15,14 +13,26 @@ HERE = pathlib.Path(__file__).resolve().parent
 PROGRAM = HERE.parent / "crates" / "smmplay" / "out" / "smmplay"
 
 
+def peak_so_far(pid):
+    """The peak of a running process's memory in KiB, or 0 once it has ended."""
+    try:
+        status = pathlib.Path(f"/proc/{pid}/status").read_text()
+    except OSError:
+        return 0
+    peaks = [line.split()[1] for line in status.splitlines() if line.startswith("VmHWM:")]
+    return int(peaks[0]) if peaks else 0
+
+
 def run_once(folder, words):
     """Seconds, peak KiB and exit status of one run, whose report goes to a file."""
     with open(folder / "report.txt", "wb") as report:
         begin = time.perf_counter()
         child = subprocess.Popen([str(PROGRAM), *words], cwd=folder, stdout=report)
-        _, status, usage = os.wait4(child.pid, 0)
+        peak = 0
+        while child.poll() is None:
+            peak = max(peak, peak_so_far(child.pid))
         seconds = time.perf_counter() - begin
-    return seconds, usage.ru_maxrss, os.waitstatus_to_exitcode(status)
+    return seconds, peak, child.returncode
 
 
 def measure(folder, name, words, entries):

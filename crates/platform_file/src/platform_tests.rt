@@ -60,8 +60,23 @@ halt = true
 io = {port = 178, length = 1, type = 8}
 ";
 
-// Changes of that platform, one a line: a text of it, what stands in its place, and what the file is
-// read as then. A line end of the texts is written `|`.
+// A platform that has no key that may be missing.
+const LEAST: &str = "version = 1
+processors = 1
+map = \"ia32\"
+policy = \"elected\"
+mode = \"relaxed\"
+polls = [1, 1]
+visits = 1
+ops = 1
+
+[[wave]]
+status = [\"absent\"]
+manage = []
+";
+
+// Changes of a platform, one a line: a text of it, what stands in its place, and what the file is read
+// as then. A line end of the texts is written `|`.
 const TOP: &str = "version = 1 =>  => missing version
 version = 1 => version = \"1\" => type version
 version = 1 => version = 0 => range version 0
@@ -149,7 +164,39 @@ ids = [16, 17]||[smram]|base = 524288|size = 1048576|tile = 2048|code = 1024| =>
 ids = [16, 17]||[smram]|base = 524288|size = 1048576|tile = 2048|code = 1024||[[wave]]|status = [\"prompt\", \"delayed\"]|manage = [\"root\"]| => wave = 1| => type wave
 ids = [16, 17]||[smram]|base = 524288|size = 1048576|tile = 2048|code = 1024||[[wave]]|status = [\"prompt\", \"delayed\"]|manage = [\"root\"]| => wave = [1]| => type wave[0]
 ids = [16, 17]||[smram]|base = 524288|size = 1048576|tile = 2048|code = 1024||[[wave]]|status = [\"prompt\", \"delayed\"]|manage = [\"root\"]| => wave = []| => range wave 0
-polls = [8, 9]|visits = 3|ops = 64 => polls = [4096, 4096]|visits = 256|ops = 4096 => too-large 22066176";
+polls = [8, 9]|visits = 3|ops = 64 => polls = [4096, 4096]|visits = 256|ops = 4096 => too-large 22066176
+polls = [8, 9] => polls = [8, 0] => range polls 0
+polls = [8, 9] => polls = [8, 4097] => range polls 4097
+polls = [8, 9] => polls = [\"8\", 9] => type polls
+polls = [8, 9] => polls = [8, true] => type polls
+polls = [8, 9] => polls = [] => range polls 0
+ids = [16, 17] => ids = [16, \"x\"] => type ids
+ids = [16, 17]||[smram]|base = 524288|size = 1048576|tile = 2048|code = 1024| => smram = []| => type smram
+status = [\"prompt\", \"delayed\"] => status = [\"prompt\", 1] => type wave[0].status
+manage = [\"root\"] => manage = [1] => type wave[0].manage
+manage = [\"root\"] => manage = [\"0011\"] => word wave[0].manage
+version = 1 => version = 9223372036854775808 => not-toml
+visits = 3|ops = 64 => visits = 0 => range visits 0
+processors = 2 => processors = 1 => range ids 2
+processors = 2 => processors = 64 => range ids 2
+polls = [8, 9] => polls = [1, 4096] => ok
+polls = [8, 9] => polls = [4096, 1] => ok
+polls = [8, 9] => polls = [8, \"9\"] => type polls
+polls = [8, 9] => polls = [8, -1] => range polls -1
+visits = 3 => visits = 1 => ok
+visits = 3 => visits = 256 => ok
+visits = 3 => visits = -1 => range visits -1
+ops = 64 => ops = 1 => ok
+ops = 64 => ops = 4096 => ok
+ops = 64 => ops = -1 => range ops -1
+ids = [16, 17] => ids = [\"a\", 17] => type ids
+ids = [16, 17] => ids = [0, 9223372036854775807] => ok
+ids = [16, 17] => ids = [] => range ids 0
+processors = 2|map = \"intel64\"|policy = \"elected\"|mode = \"traditional\"|polls = [8, 9]|visits = 3|ops = 64|ids = [16, 17] => processors = 3|map = \"intel64\"|policy = \"elected\"|mode = \"traditional\"|polls = [8, 9]|visits = 3|ops = 64|ids = [5, 5, \"x\"] => range ids 5
+status = [\"prompt\", \"delayed\"] => status = [1, \"prompt\"] => type wave[0].status
+status = [\"prompt\", \"delayed\"] => status = [] => range wave[0].status 0
+manage = [\"root\"] => manage = [\"root\", 1] => type wave[0].manage
+manage = [\"root\"] => manage = [\"root\", \"\"] => word wave[0].manage";
 
 const HANDLERS: &str = "name = \"h0\" =>  => missing handler[0].name
 name = \"h0\" => name = 0 => type handler[0].name
@@ -171,8 +218,6 @@ ops = [] => ops = [1] => type handler[1].ops[0]
 ops = [] => ops = [{}] => missing handler[1].ops[0].op
 ops = [] => ops = [{op = 1}] => type handler[1].ops[0].op
 ops = [] => ops = [{op = \"nop\"}] => word handler[1].ops[0].op
-ops = [] => ops = [{op = \"set\", into = \"v0\", value = 7}, {op = \"set\", into = \"v0\", value = 7}, {op = \"set\", into = \"v0\", value = 7}, {op = \"set\", into = \"v0\", value = 7}, {op = \"set\", into = \"v0\", value = 7}, {op = \"set\", into = \"v0\", value = 7}, {op = \"set\", into = \"v0\", value = 7}, {op = \"set\", into = \"v0\", value = 7}, {op = \"set\", into = \"v0\", value = 7}, {op = \"set\", into = \"v0\", value = 7}, {op = \"set\", into = \"v0\", value = 7}, {op = \"set\", into = \"v0\", value = 7}, {op = \"set\", into = \"v0\", value = 7}, {op = \"set\", into = \"v0\", value = 7}, {op = \"set\", into = \"v0\", value = 7}, {op = \"set\", into = \"v0\", value = 7}, {op = \"set\", into = \"v0\", value = 7}, {op = \"set\", into = \"v0\", value = 7}, {op = \"set\", into = \"v0\", value = 7}, {op = \"set\", into = \"v0\", value = 7}, {op = \"set\", into = \"v0\", value = 7}, {op = \"set\", into = \"v0\", value = 7}, {op = \"set\", into = \"v0\", value = 7}, {op = \"set\", into = \"v0\", value = 7}, {op = \"set\", into = \"v0\", value = 7}, {op = \"set\", into = \"v0\", value = 7}, {op = \"set\", into = \"v0\", value = 7}, {op = \"set\", into = \"v0\", value = 7}, {op = \"set\", into = \"v0\", value = 7}, {op = \"set\", into = \"v0\", value = 7}, {op = \"set\", into = \"v0\", value = 7}, {op = \"set\", into = \"v0\", value = 7}, {op = \"set\", into = \"v0\", value = 7}, {op = \"set\", into = \"v0\", value = 7}, {op = \"set\", into = \"v0\", value = 7}, {op = \"set\", into = \"v0\", value = 7}, {op = \"set\", into = \"v0\", value = 7}, {op = \"set\", into = \"v0\", value = 7}, {op = \"set\", into = \"v0\", value = 7}, {op = \"set\", into = \"v0\", value = 7}, {op = \"set\", into = \"v0\", value = 7}, {op = \"set\", into = \"v0\", value = 7}, {op = \"set\", into = \"v0\", value = 7}, {op = \"set\", into = \"v0\", value = 7}, {op = \"set\", into = \"v0\", value = 7}, {op = \"set\", into = \"v0\", value = 7}, {op = \"set\", into = \"v0\", value = 7}, {op = \"set\", into = \"v0\", value = 7}, {op = \"set\", into = \"v0\", value = 7}, {op = \"set\", into = \"v0\", value = 7}, {op = \"set\", into = \"v0\", value = 7}, {op = \"set\", into = \"v0\", value = 7}, {op = \"set\", into = \"v0\", value = 7}, {op = \"set\", into = \"v0\", value = 7}, {op = \"set\", into = \"v0\", value = 7}, {op = \"set\", into = \"v0\", value = 7}, {op = \"set\", into = \"v0\", value = 7}, {op = \"set\", into = \"v0\", value = 7}, {op = \"set\", into = \"v0\", value = 7}, {op = \"set\", into = \"v0\", value = 7}, {op = \"set\", into = \"v0\", value = 7}, {op = \"set\", into = \"v0\", value = 7}, {op = \"set\", into = \"v0\", value = 7}, {op = \"set\", into = \"v0\", value = 7}] => ok
-ops = [] => ops = [{op = \"set\", into = \"v0\", value = 7}, {op = \"set\", into = \"v0\", value = 7}, {op = \"set\", into = \"v0\", value = 7}, {op = \"set\", into = \"v0\", value = 7}, {op = \"set\", into = \"v0\", value = 7}, {op = \"set\", into = \"v0\", value = 7}, {op = \"set\", into = \"v0\", value = 7}, {op = \"set\", into = \"v0\", value = 7}, {op = \"set\", into = \"v0\", value = 7}, {op = \"set\", into = \"v0\", value = 7}, {op = \"set\", into = \"v0\", value = 7}, {op = \"set\", into = \"v0\", value = 7}, {op = \"set\", into = \"v0\", value = 7}, {op = \"set\", into = \"v0\", value = 7}, {op = \"set\", into = \"v0\", value = 7}, {op = \"set\", into = \"v0\", value = 7}, {op = \"set\", into = \"v0\", value = 7}, {op = \"set\", into = \"v0\", value = 7}, {op = \"set\", into = \"v0\", value = 7}, {op = \"set\", into = \"v0\", value = 7}, {op = \"set\", into = \"v0\", value = 7}, {op = \"set\", into = \"v0\", value = 7}, {op = \"set\", into = \"v0\", value = 7}, {op = \"set\", into = \"v0\", value = 7}, {op = \"set\", into = \"v0\", value = 7}, {op = \"set\", into = \"v0\", value = 7}, {op = \"set\", into = \"v0\", value = 7}, {op = \"set\", into = \"v0\", value = 7}, {op = \"set\", into = \"v0\", value = 7}, {op = \"set\", into = \"v0\", value = 7}, {op = \"set\", into = \"v0\", value = 7}, {op = \"set\", into = \"v0\", value = 7}, {op = \"set\", into = \"v0\", value = 7}, {op = \"set\", into = \"v0\", value = 7}, {op = \"set\", into = \"v0\", value = 7}, {op = \"set\", into = \"v0\", value = 7}, {op = \"set\", into = \"v0\", value = 7}, {op = \"set\", into = \"v0\", value = 7}, {op = \"set\", into = \"v0\", value = 7}, {op = \"set\", into = \"v0\", value = 7}, {op = \"set\", into = \"v0\", value = 7}, {op = \"set\", into = \"v0\", value = 7}, {op = \"set\", into = \"v0\", value = 7}, {op = \"set\", into = \"v0\", value = 7}, {op = \"set\", into = \"v0\", value = 7}, {op = \"set\", into = \"v0\", value = 7}, {op = \"set\", into = \"v0\", value = 7}, {op = \"set\", into = \"v0\", value = 7}, {op = \"set\", into = \"v0\", value = 7}, {op = \"set\", into = \"v0\", value = 7}, {op = \"set\", into = \"v0\", value = 7}, {op = \"set\", into = \"v0\", value = 7}, {op = \"set\", into = \"v0\", value = 7}, {op = \"set\", into = \"v0\", value = 7}, {op = \"set\", into = \"v0\", value = 7}, {op = \"set\", into = \"v0\", value = 7}, {op = \"set\", into = \"v0\", value = 7}, {op = \"set\", into = \"v0\", value = 7}, {op = \"set\", into = \"v0\", value = 7}, {op = \"set\", into = \"v0\", value = 7}, {op = \"set\", into = \"v0\", value = 7}, {op = \"set\", into = \"v0\", value = 7}, {op = \"set\", into = \"v0\", value = 7}, {op = \"set\", into = \"v0\", value = 7}, {op = \"set\", into = \"v0\", value = 7}] => range handler[1].ops 65
 ops = [] => ops = []|name2 = 1 => unknown handler[1].name2
 {op = \"set\", into = \"v0\", value = 7} => {op = \"set\", value = 7} => missing handler[0].ops[0].into
 {op = \"set\", into = \"v0\", value = 7} => {op = \"set\", into = 0, value = 7} => type handler[0].ops[0].into
@@ -235,7 +280,111 @@ into = \"v0\", value = 7 => into = \"v0\", value = 9223372036854775807 => ok
 {op = \"register\", handler = \"h1\", type = \"root\", into = \"v7\"} => {op = \"register\", handler = \"h0\", type = \"root\", into = \"v7\"} => ok
 {op = \"register\", handler = \"h1\", type = \"root\", into = \"v7\"} => {op = \"register\", handler = \"h1\", into = \"v7\"} => missing handler[0].ops[9].type
 {op = \"register\", handler = \"h1\", type = \"root\", into = \"v7\"} => {op = \"register\", handler = \"h1\", type = \"none\", into = \"v7\"} => word handler[0].ops[9].type
-{op = \"register\", handler = \"h1\", type = \"root\", into = \"v7\"} => {op = \"register\", handler = \"h1\", type = \"root\"} => missing handler[0].ops[9].into";
+{op = \"register\", handler = \"h1\", type = \"root\", into = \"v7\"} => {op = \"register\", handler = \"h1\", type = \"root\"} => missing handler[0].ops[9].into
+name = \"h0\" => name = \"nnnnnnnnnnnnnnnnnnnnnnnnnnnnnnnnn\" => word handler[0].name
+answer = \"SUCCESS\" => answer = \"NOT_FOUND\" => word handler[0].answer
+into = \"v0\", value = 7 => into = \"v0\", value = \"0x\" => word handler[0].ops[0].value
+into = \"v0\", value = 7 => into = \"v0\", value = \"0xG\" => word handler[0].ops[0].value
+into = \"v0\", value = 7 => into = \"v0\", value = \"0X1\" => word handler[0].ops[0].value
+into = \"v0\", value = 7 => into = \"v0\", value = \"0x11112222333344445\" => word handler[0].ops[0].value
+into = \"v0\", value = 7 => into = \"v0\", value = \"v8\" => word handler[0].ops[0].value
+{op = \"set\", into = \"v0\", value = 7} => {op = \"set\", into = \"v0\", value = true} => type handler[0].ops[0].value
+{op = \"set\", into = \"v0\", value = 7} => {op = \"set\", into = \"v0\", value = -1} => range handler[0].ops[0].value -1
+{op = \"set\", into = \"v0\", value = 7} => {op = \"set\", into = \"v0\", value = \"x\"} => word handler[0].ops[0].value
+{op = \"set\", into = \"v0\", value = 7} => {op = \"set\", into = \"v0\", value = \"0xg\"} => word handler[0].ops[0].value
+{op = \"set\", into = \"v0\", value = 7} => {op = \"set\", into = \"v0\", value = 7, zz = 1} => unknown handler[0].ops[0].zz
+{op = \"read\", cpu = 10, reg = \"RAX\", width = 8, into = \"v1\"} => {op = \"read\", cpu = 0, reg = \"RAX\", width = 8, into = \"v1\"} => ok
+{op = \"read\", cpu = 10, reg = \"RAX\", width = 8, into = \"v1\"} => {op = \"read\", cpu = 10, width = 8, into = \"v1\"} => missing handler[0].ops[1].reg
+{op = \"read\", cpu = 10, reg = \"RAX\", width = 8, into = \"v1\"} => {op = \"read\", cpu = 10, reg = 38, width = 8, into = \"v1\"} => type handler[0].ops[1].reg
+{op = \"read\", cpu = 10, reg = \"RAX\", width = 8, into = \"v1\"} => {op = \"read\", cpu = 10, reg = \"EAX\", width = 8, into = \"v1\"} => word handler[0].ops[1].reg
+{op = \"read\", cpu = 10, reg = \"RAX\", width = 8, into = \"v1\"} => {op = \"read\", cpu = 10, reg = \"RAX\", width = 24, into = \"v1\"} => ok
+{op = \"read\", cpu = 10, reg = \"RAX\", width = 8, into = \"v1\"} => {op = \"read\", cpu = 10, reg = \"RAX\", width = 8, into = 0} => type handler[0].ops[1].into
+{op = \"read\", cpu = 10, reg = \"RAX\", width = 8, into = \"v1\"} => {op = \"read\", cpu = 10, reg = \"RAX\", width = 8, into = \"v8\"} => word handler[0].ops[1].into
+{op = \"read\", cpu = 10, reg = \"RAX\", width = 8, into = \"v1\"} => {op = \"read\", cpu = 10, reg = \"RAX\", width = 8, into = \"v1\", zz = 1} => unknown handler[0].ops[1].zz
+{op = \"write\", cpu = 11, reg = \"RBX\", width = 4, value = \"v1\"} => {op = \"write\", cpu = \"0\", reg = \"RBX\", width = 4, value = \"v1\"} => type handler[0].ops[2].cpu
+{op = \"write\", cpu = 11, reg = \"RBX\", width = 4, value = \"v1\"} => {op = \"write\", cpu = -1, reg = \"RBX\", width = 4, value = \"v1\"} => range handler[0].ops[2].cpu -1
+{op = \"write\", cpu = 11, reg = \"RBX\", width = 4, value = \"v1\"} => {op = \"write\", cpu = 65536, reg = \"RBX\", width = 4, value = \"v1\"} => range handler[0].ops[2].cpu 65536
+{op = \"write\", cpu = 11, reg = \"RBX\", width = 4, value = \"v1\"} => {op = \"write\", cpu = 0, reg = \"RBX\", width = 4, value = \"v1\"} => ok
+{op = \"write\", cpu = 11, reg = \"RBX\", width = 4, value = \"v1\"} => {op = \"write\", cpu = 65535, reg = \"RBX\", width = 4, value = \"v1\"} => ok
+{op = \"write\", cpu = 11, reg = \"RBX\", width = 4, value = \"v1\"} => {op = \"write\", cpu = 11, width = 4, value = \"v1\"} => missing handler[0].ops[2].reg
+{op = \"write\", cpu = 11, reg = \"RBX\", width = 4, value = \"v1\"} => {op = \"write\", cpu = 11, reg = 38, width = 4, value = \"v1\"} => type handler[0].ops[2].reg
+{op = \"write\", cpu = 11, reg = \"RBX\", width = 4, value = \"v1\"} => {op = \"write\", cpu = 11, reg = \"EAX\", width = 4, value = \"v1\"} => word handler[0].ops[2].reg
+{op = \"write\", cpu = 11, reg = \"RBX\", width = 4, value = \"v1\"} => {op = \"write\", cpu = 11, reg = \"RBX\", value = \"v1\"} => missing handler[0].ops[2].width
+{op = \"write\", cpu = 11, reg = \"RBX\", width = 4, value = \"v1\"} => {op = \"write\", cpu = 11, reg = \"RBX\", width = \"8\", value = \"v1\"} => type handler[0].ops[2].width
+{op = \"write\", cpu = 11, reg = \"RBX\", width = 4, value = \"v1\"} => {op = \"write\", cpu = 11, reg = \"RBX\", width = -1, value = \"v1\"} => range handler[0].ops[2].width -1
+{op = \"write\", cpu = 11, reg = \"RBX\", width = 4, value = \"v1\"} => {op = \"write\", cpu = 11, reg = \"RBX\", width = 25, value = \"v1\"} => range handler[0].ops[2].width 25
+{op = \"write\", cpu = 11, reg = \"RBX\", width = 4, value = \"v1\"} => {op = \"write\", cpu = 11, reg = \"RBX\", width = 0, value = \"v1\"} => ok
+{op = \"write\", cpu = 11, reg = \"RBX\", width = 4, value = \"v1\"} => {op = \"write\", cpu = 11, reg = \"RBX\", width = 24, value = \"v1\"} => ok
+{op = \"write\", cpu = 11, reg = \"RBX\", width = 4, value = \"v1\"} => {op = \"write\", cpu = 11, reg = \"RBX\", width = 4, value = true} => type handler[0].ops[2].value
+{op = \"write\", cpu = 11, reg = \"RBX\", width = 4, value = \"v1\"} => {op = \"write\", cpu = 11, reg = \"RBX\", width = 4, value = -1} => range handler[0].ops[2].value -1
+{op = \"write\", cpu = 11, reg = \"RBX\", width = 4, value = \"v1\"} => {op = \"write\", cpu = 11, reg = \"RBX\", width = 4, value = \"x\"} => word handler[0].ops[2].value
+{op = \"write\", cpu = 11, reg = \"RBX\", width = 4, value = \"v1\"} => {op = \"write\", cpu = 11, reg = \"RBX\", width = 4, value = \"0xg\"} => word handler[0].ops[2].value
+{op = \"write\", cpu = 11, reg = \"RBX\", width = 4, value = \"v1\"} => {op = \"write\", cpu = 11, reg = \"RBX\", width = 4, value = \"v1\", zz = 1} => unknown handler[0].ops[2].zz
+{op = \"start\", cpu = 12, procedure = \"p0\", arg = \"0xFF\", into = \"v2\"} => {op = \"start\", procedure = \"p0\", arg = \"0xFF\", into = \"v2\"} => missing handler[0].ops[3].cpu
+{op = \"start\", cpu = 12, procedure = \"p0\", arg = \"0xFF\", into = \"v2\"} => {op = \"start\", cpu = \"0\", procedure = \"p0\", arg = \"0xFF\", into = \"v2\"} => type handler[0].ops[3].cpu
+{op = \"start\", cpu = 12, procedure = \"p0\", arg = \"0xFF\", into = \"v2\"} => {op = \"start\", cpu = -1, procedure = \"p0\", arg = \"0xFF\", into = \"v2\"} => range handler[0].ops[3].cpu -1
+{op = \"start\", cpu = 12, procedure = \"p0\", arg = \"0xFF\", into = \"v2\"} => {op = \"start\", cpu = 65536, procedure = \"p0\", arg = \"0xFF\", into = \"v2\"} => range handler[0].ops[3].cpu 65536
+{op = \"start\", cpu = 12, procedure = \"p0\", arg = \"0xFF\", into = \"v2\"} => {op = \"start\", cpu = 0, procedure = \"p0\", arg = \"0xFF\", into = \"v2\"} => ok
+{op = \"start\", cpu = 12, procedure = \"p0\", arg = \"0xFF\", into = \"v2\"} => {op = \"start\", cpu = 65535, procedure = \"p0\", arg = \"0xFF\", into = \"v2\"} => ok
+{op = \"start\", cpu = 12, procedure = \"p0\", arg = \"0xFF\", into = \"v2\"} => {op = \"start\", cpu = 12, procedure = \"p0\", arg = true, into = \"v2\"} => type handler[0].ops[3].arg
+{op = \"start\", cpu = 12, procedure = \"p0\", arg = \"0xFF\", into = \"v2\"} => {op = \"start\", cpu = 12, procedure = \"p0\", arg = -1, into = \"v2\"} => range handler[0].ops[3].arg -1
+{op = \"start\", cpu = 12, procedure = \"p0\", arg = \"0xFF\", into = \"v2\"} => {op = \"start\", cpu = 12, procedure = \"p0\", arg = \"x\", into = \"v2\"} => word handler[0].ops[3].arg
+{op = \"start\", cpu = 12, procedure = \"p0\", arg = \"0xFF\", into = \"v2\"} => {op = \"start\", cpu = 12, procedure = \"p0\", arg = \"0xg\", into = \"v2\"} => word handler[0].ops[3].arg
+{op = \"start\", cpu = 12, procedure = \"p0\", arg = \"0xFF\", into = \"v2\"} => {op = \"start\", cpu = 12, procedure = \"p0\", arg = \"0xFF\", into = 0} => type handler[0].ops[3].into
+{op = \"start\", cpu = 12, procedure = \"p0\", arg = \"0xFF\", into = \"v2\"} => {op = \"start\", cpu = 12, procedure = \"p0\", arg = \"0xFF\", into = \"v8\"} => word handler[0].ops[3].into
+{op = \"start\", cpu = 12, procedure = \"p0\", arg = \"0xFF\", into = \"v2\"} => {op = \"start\", cpu = 12, procedure = \"p0\", arg = \"0xFF\", into = \"v2\", zz = 1} => unknown handler[0].ops[3].zz
+{op = \"launch\", cpu = 13, procedure = \"none\", arg = 5, into = \"v3\"} => {op = \"launch\", cpu = \"0\", procedure = \"none\", arg = 5, into = \"v3\"} => type handler[0].ops[4].cpu
+{op = \"launch\", cpu = 13, procedure = \"none\", arg = 5, into = \"v3\"} => {op = \"launch\", cpu = -1, procedure = \"none\", arg = 5, into = \"v3\"} => range handler[0].ops[4].cpu -1
+{op = \"launch\", cpu = 13, procedure = \"none\", arg = 5, into = \"v3\"} => {op = \"launch\", cpu = 65536, procedure = \"none\", arg = 5, into = \"v3\"} => range handler[0].ops[4].cpu 65536
+{op = \"launch\", cpu = 13, procedure = \"none\", arg = 5, into = \"v3\"} => {op = \"launch\", cpu = 0, procedure = \"none\", arg = 5, into = \"v3\"} => ok
+{op = \"launch\", cpu = 13, procedure = \"none\", arg = 5, into = \"v3\"} => {op = \"launch\", cpu = 65535, procedure = \"none\", arg = 5, into = \"v3\"} => ok
+{op = \"launch\", cpu = 13, procedure = \"none\", arg = 5, into = \"v3\"} => {op = \"launch\", cpu = 13, arg = 5, into = \"v3\"} => missing handler[0].ops[4].procedure
+{op = \"launch\", cpu = 13, procedure = \"none\", arg = 5, into = \"v3\"} => {op = \"launch\", cpu = 13, procedure = 0, arg = 5, into = \"v3\"} => type handler[0].ops[4].procedure
+{op = \"launch\", cpu = 13, procedure = \"none\", arg = 5, into = \"v3\"} => {op = \"launch\", cpu = 13, procedure = \"none\", into = \"v3\"} => missing handler[0].ops[4].arg
+{op = \"launch\", cpu = 13, procedure = \"none\", arg = 5, into = \"v3\"} => {op = \"launch\", cpu = 13, procedure = \"none\", arg = true, into = \"v3\"} => type handler[0].ops[4].arg
+{op = \"launch\", cpu = 13, procedure = \"none\", arg = 5, into = \"v3\"} => {op = \"launch\", cpu = 13, procedure = \"none\", arg = -1, into = \"v3\"} => range handler[0].ops[4].arg -1
+{op = \"launch\", cpu = 13, procedure = \"none\", arg = 5, into = \"v3\"} => {op = \"launch\", cpu = 13, procedure = \"none\", arg = \"x\", into = \"v3\"} => word handler[0].ops[4].arg
+{op = \"launch\", cpu = 13, procedure = \"none\", arg = 5, into = \"v3\"} => {op = \"launch\", cpu = 13, procedure = \"none\", arg = \"0xg\", into = \"v3\"} => word handler[0].ops[4].arg
+{op = \"launch\", cpu = 13, procedure = \"none\", arg = 5, into = \"v3\"} => {op = \"launch\", cpu = 13, procedure = \"none\", arg = 5} => missing handler[0].ops[4].into
+{op = \"launch\", cpu = 13, procedure = \"none\", arg = 5, into = \"v3\"} => {op = \"launch\", cpu = 13, procedure = \"none\", arg = 5, into = 0} => type handler[0].ops[4].into
+{op = \"launch\", cpu = 13, procedure = \"none\", arg = 5, into = \"v3\"} => {op = \"launch\", cpu = 13, procedure = \"none\", arg = 5, into = \"v8\"} => word handler[0].ops[4].into
+{op = \"launch\", cpu = 13, procedure = \"none\", arg = 5, into = \"v3\"} => {op = \"launch\", cpu = 13, procedure = \"none\", arg = 5, into = \"v3\", zz = 1} => unknown handler[0].ops[4].zz
+{op = \"check\", token = \"v3\"} => {op = \"check\", token = true} => type handler[0].ops[5].token
+{op = \"check\", token = \"v3\"} => {op = \"check\", token = -1} => range handler[0].ops[5].token -1
+{op = \"check\", token = \"v3\"} => {op = \"check\", token = \"x\"} => word handler[0].ops[5].token
+{op = \"check\", token = \"v3\"} => {op = \"check\", token = \"0xg\"} => word handler[0].ops[5].token
+{op = \"check\", token = \"v3\"} => {op = \"check\", token = \"v3\", zz = 1} => unknown handler[0].ops[5].zz
+{op = \"wait\", token = \"v4\", into = \"v5\"} => {op = \"wait\", token = true, into = \"v5\"} => type handler[0].ops[6].token
+{op = \"wait\", token = \"v4\", into = \"v5\"} => {op = \"wait\", token = -1, into = \"v5\"} => range handler[0].ops[6].token -1
+{op = \"wait\", token = \"v4\", into = \"v5\"} => {op = \"wait\", token = \"x\", into = \"v5\"} => word handler[0].ops[6].token
+{op = \"wait\", token = \"v4\", into = \"v5\"} => {op = \"wait\", token = \"0xg\", into = \"v5\"} => word handler[0].ops[6].token
+{op = \"wait\", token = \"v4\", into = \"v5\"} => {op = \"wait\", token = \"v4\", into = 0} => type handler[0].ops[6].into
+{op = \"wait\", token = \"v4\", into = \"v5\"} => {op = \"wait\", token = \"v4\", into = \"v8\"} => word handler[0].ops[6].into
+{op = \"wait\", token = \"v4\", into = \"v5\"} => {op = \"wait\", token = \"v4\", into = \"v5\", zz = 1} => unknown handler[0].ops[6].zz
+{op = \"alloc\", size = 64, into = \"v6\"} => {op = \"alloc\", size = true, into = \"v6\"} => type handler[0].ops[7].size
+{op = \"alloc\", size = 64, into = \"v6\"} => {op = \"alloc\", size = -1, into = \"v6\"} => range handler[0].ops[7].size -1
+{op = \"alloc\", size = 64, into = \"v6\"} => {op = \"alloc\", size = \"x\", into = \"v6\"} => word handler[0].ops[7].size
+{op = \"alloc\", size = 64, into = \"v6\"} => {op = \"alloc\", size = \"0xg\", into = \"v6\"} => word handler[0].ops[7].size
+{op = \"alloc\", size = 64, into = \"v6\"} => {op = \"alloc\", size = 64} => missing handler[0].ops[7].into
+{op = \"alloc\", size = 64, into = \"v6\"} => {op = \"alloc\", size = 64, into = 0} => type handler[0].ops[7].into
+{op = \"alloc\", size = 64, into = \"v6\"} => {op = \"alloc\", size = 64, into = \"v8\"} => word handler[0].ops[7].into
+{op = \"alloc\", size = 64, into = \"v6\"} => {op = \"alloc\", size = 64, into = \"v6\", zz = 1} => unknown handler[0].ops[7].zz
+{op = \"free\", place = \"v6\"} => {op = \"free\", place = true} => type handler[0].ops[8].place
+{op = \"free\", place = \"v6\"} => {op = \"free\", place = -1} => range handler[0].ops[8].place -1
+{op = \"free\", place = \"v6\"} => {op = \"free\", place = \"x\"} => word handler[0].ops[8].place
+{op = \"free\", place = \"v6\"} => {op = \"free\", place = \"0xg\"} => word handler[0].ops[8].place
+{op = \"free\", place = \"v6\"} => {op = \"free\", place = \"v6\", zz = 1} => unknown handler[0].ops[8].zz
+{op = \"register\", handler = \"h1\", type = \"root\", into = \"v7\"} => {op = \"register\", handler = \"h9\", type = \"root\", into = \"v7\"} => word handler[0].ops[9].handler
+{op = \"register\", handler = \"h1\", type = \"root\", into = \"v7\"} => {op = \"register\", handler = \"h1\", type = 1, into = \"v7\"} => type handler[0].ops[9].type
+{op = \"register\", handler = \"h1\", type = \"root\", into = \"v7\"} => {op = \"register\", handler = \"h1\", type = \"root\", into = 0} => type handler[0].ops[9].into
+{op = \"register\", handler = \"h1\", type = \"root\", into = \"v7\"} => {op = \"register\", handler = \"h1\", type = \"root\", into = \"v8\"} => word handler[0].ops[9].into
+{op = \"register\", handler = \"h1\", type = \"root\", into = \"v7\"} => {op = \"register\", handler = \"h1\", type = \"root\", into = \"v7\", zz = 1} => unknown handler[0].ops[9].zz
+{op = \"unregister\", handle = \"v7\"} => {op = \"unregister\", handle = true} => type handler[0].ops[10].handle
+{op = \"unregister\", handle = \"v7\"} => {op = \"unregister\", handle = -1} => range handler[0].ops[10].handle -1
+{op = \"unregister\", handle = \"v7\"} => {op = \"unregister\", handle = \"x\"} => word handler[0].ops[10].handle
+{op = \"unregister\", handle = \"v7\"} => {op = \"unregister\", handle = \"0xg\"} => word handler[0].ops[10].handle
+{op = \"unregister\", handle = \"v7\"} => {op = \"unregister\", handle = \"v7\", zz = 1} => unknown handler[0].ops[10].zz
+{op = \"manage\", type = \"00112233-4455-6677-8899-aabbccddeeff\"} => {op = \"manage\", type = \"00112233-4455-6677-8899-aabbccddeeff\", zz = 1} => unknown handler[0].ops[11].zz";
 
 const LATER: &str = "name = \"p0\" =>  => missing procedure[0].name
 name = \"p0\" => name = 1 => type procedure[0].name
@@ -284,7 +433,45 @@ io = {port = 178, length = 1, type = 8} => io = {port = 178, length = 1, type = 
 [[procedure]]|name = \"p0\"|act = \"get\"|reg = \"RSP\"| =>  => ok
 [[cause]]|cpu = 0|visit = 1|halt = true|io = {port = 178, length = 1, type = 8}| => [[cause]]|cpu = 0|visit = 1|halt = true|io = {port = 178, length = 1, type = 8}||[[cause]]|cpu = 0|visit = 1| => range cause[1].visit 1
 [[cause]]|cpu = 0|visit = 1|halt = true|io = {port = 178, length = 1, type = 8}| => [[cause]]|cpu = 0|visit = 1|halt = true|io = {port = 178, length = 1, type = 8}||[[cause]]|cpu = 1|visit = 1| => ok
-[[cause]]|cpu = 0|visit = 1|halt = true|io = {port = 178, length = 1, type = 8}| =>  => ok";
+[[cause]]|cpu = 0|visit = 1|halt = true|io = {port = 178, length = 1, type = 8}| =>  => ok
+name = \"p0\" => name = \"ppppppppppppppppppppppppppppppppp\" => word procedure[0].name
+name = \"p0\" => name = \"pppppppppppppppppppppppppppppppp\" => ok
+[[cause]]|cpu = 0|visit = 1|halt = true|io = {port = 178, length = 1, type = 8}| => [[cause]]|cpu = 0|visit = 1||[[cause]]|cpu = 0|visit = 1|halt = 1| => range cause[1].visit 1";
+
+const OF_LEAST: &str = "ops = 1 => ops = 1 => ok
+ops = 1 => ops = 1|handler = 1 => type handler
+ops = 1 => ops = 1|handler = [1] => type handler[0]
+ops = 1 => ops = 1|handler = [[]] => type handler[0]
+ops = 1 => ops = 1|handler = {} => type handler
+ops = 1 => ops = 1|handler = [{}] => missing handler[0].name
+ops = 1 => ops = 1|handler = [] => ok
+ops = 1 => ops = 1|handler = \"x\" => type handler
+ops = 1 => ops = 1|procedure = 1 => type procedure
+ops = 1 => ops = 1|procedure = [1] => type procedure[0]
+ops = 1 => ops = 1|procedure = [[]] => type procedure[0]
+ops = 1 => ops = 1|procedure = {} => type procedure
+ops = 1 => ops = 1|procedure = [{}] => missing procedure[0].name
+ops = 1 => ops = 1|procedure = [] => ok
+ops = 1 => ops = 1|procedure = \"x\" => type procedure
+ops = 1 => ops = 1|cause = 1 => type cause
+ops = 1 => ops = 1|cause = [1] => type cause[0]
+ops = 1 => ops = 1|cause = [[]] => type cause[0]
+ops = 1 => ops = 1|cause = {} => type cause
+ops = 1 => ops = 1|cause = [{}] => missing cause[0].cpu
+ops = 1 => ops = 1|cause = [] => ok
+ops = 1 => ops = 1|cause = \"x\" => type cause
+ops = 1 => ops = 1|smram = {} => missing smram.base
+ops = 1 => ops = 1|smram = 1 => type smram
+ops = 1 => ops = 1|ids = [0] => ok
+|[[wave]]|status = [\"absent\"]|manage = []| => wave = 1| => type wave
+|[[wave]]|status = [\"absent\"]|manage = []| => wave = [1]| => type wave[0]
+|[[wave]]|status = [\"absent\"]|manage = []| => wave = []| => range wave 0
+|[[wave]]|status = [\"absent\"]|manage = []| => wave = {}| => type wave
+|[[wave]]|status = [\"absent\"]|manage = []| => wave = [{}]| => missing wave[0].status
+processors = 1 => processors = 1|fixed = 0 => unknown fixed
+policy = \"elected\" => policy = \"fixed\"|fixed = 0 => ok
+policy = \"elected\" => policy = \"fixed\"|fixed = 1 => range fixed 1
+policy = \"elected\" => policy = \"fixed\"|fixed = -1 => range fixed -1";
 
 // The answer on a text: `ok`, or the words of its fault.
 fn answer_on(alloc: Global, text: &str) -> Result<String, AllocError> {
@@ -304,11 +491,11 @@ fn with_line_ends(alloc: Global, text: &str) -> Result<String, AllocError> {
     Ok(lines)
 }
 
-// The answer on the platform with another text in place of the first such one.
-fn answer_to(alloc: Global, old: &str, new: &str) -> Result<String, AllocError> {
+// The answer on a platform with another text in place of the first such one.
+fn answer_to(alloc: Global, platform: &str, old: &str, new: &str) -> Result<String, AllocError> {
     let old = with_line_ends(alloc, old)?;
     let new = with_line_ends(alloc, new)?;
-    let Some((front, back)) = PLATFORM.split_once(old.as_str()) else {
+    let Some((front, back)) = platform.split_once(old.as_str()) else {
         return String::from_str(alloc, "there is no such text");
     };
     let mut text = String::from_str(alloc, front)?;
@@ -318,21 +505,21 @@ fn answer_to(alloc: Global, old: &str, new: &str) -> Result<String, AllocError> 
 }
 
 // Is the answer on a change the one of its line?
-fn is_as_told(alloc: Global, line: &str) -> Result<bool, AllocError> {
+fn is_as_told(alloc: Global, platform: &str, line: &str) -> Result<bool, AllocError> {
     let Some((old, more)) = line.split_once(" => ") else {
         return Ok(false);
     };
     let Some((new, told)) = more.split_once(" => ") else {
         return Ok(false);
     };
-    let answer = answer_to(alloc, old, new)?;
+    let answer = answer_to(alloc, platform, old, new)?;
     Ok(answer.as_str() == told)
 }
 
 // The first change whose answer is another than its line says.
-fn first_wrong(alloc: Global, changes: &str) -> Result<String, AllocError> {
+fn first_wrong(alloc: Global, platform: &str, changes: &str) -> Result<String, AllocError> {
     for line in changes.lines() {
-        if !is_as_told(alloc, line)? {
+        if !is_as_told(alloc, platform, line)? {
             return String::from_str(alloc, line);
         }
     }
@@ -347,18 +534,88 @@ fn each_table_is_read(rt: HostRuntime) -> Result<(), Fail> {
 
 #[test]
 fn the_first_fault_of_the_top_tables_is_told(rt: HostRuntime) -> Result<(), Fail> {
-    assert_eq!(rt; first_wrong(rt.alloc(), TOP)?.as_str(), "");
+    assert_eq!(rt; first_wrong(rt.alloc(), PLATFORM, TOP)?.as_str(), "");
     Ok(())
 }
 
 #[test]
 fn the_first_fault_of_a_handler_is_told(rt: HostRuntime) -> Result<(), Fail> {
-    assert_eq!(rt; first_wrong(rt.alloc(), HANDLERS)?.as_str(), "");
+    assert_eq!(rt; first_wrong(rt.alloc(), PLATFORM, HANDLERS)?.as_str(), "");
     Ok(())
 }
 
 #[test]
 fn the_first_fault_of_a_procedure_or_cause_is_told(rt: HostRuntime) -> Result<(), Fail> {
-    assert_eq!(rt; first_wrong(rt.alloc(), LATER)?.as_str(), "");
+    assert_eq!(rt; first_wrong(rt.alloc(), PLATFORM, LATER)?.as_str(), "");
+    Ok(())
+}
+
+#[test]
+fn the_first_fault_of_the_least_platform_is_told(rt: HostRuntime) -> Result<(), Fail> {
+    assert_eq!(rt; first_wrong(rt.alloc(), LEAST, OF_LEAST)?.as_str(), "");
+    Ok(())
+}
+
+// A text so many times behind another, and a last one.
+fn repeated(
+    alloc: Global,
+    front: &str,
+    text: &str,
+    count: u32,
+    back: &str,
+) -> Result<String, AllocError> {
+    let mut whole = String::from_str(alloc, front)?;
+    for _ in 0..count {
+        whole.push_str(text)?;
+    }
+    whole.push_str(back)?;
+    Ok(whole)
+}
+
+// The answer on the platform with so many more entries of a list of tables at its end.
+fn answer_with_more(alloc: Global, entry: &str, count: u32) -> Result<String, AllocError> {
+    let text = repeated(alloc, PLATFORM, entry, count, "")?;
+    answer_on(alloc, text.as_str())
+}
+
+// The answer on the platform whose second handler has so many operations.
+fn answer_with_operations(alloc: Global, count: u32) -> Result<String, AllocError> {
+    let operation = "{op = \"free\", place = 0}, ";
+    let operations = repeated(alloc, "ops = [", operation, count, "]")?;
+    answer_to(alloc, PLATFORM, "ops = []", operations.as_str())
+}
+
+#[test]
+fn a_list_is_as_long_as_its_limit(rt: HostRuntime) -> Result<(), Fail> {
+    let alloc = rt.alloc();
+    assert_eq!(rt; answer_with_operations(alloc, 64)?.as_str(), "ok");
+    assert_eq!(rt;
+        answer_with_operations(alloc, 65)?.as_str(),
+        "range handler[1].ops 65"
+    );
+    assert_eq!(rt;
+        answer_with_more(alloc, "[[handler]]\n", 62)?.as_str(),
+        "missing handler[2].name"
+    );
+    assert_eq!(rt;
+        answer_with_more(alloc, "[[handler]]\n", 63)?.as_str(),
+        "range handler 65"
+    );
+    assert_eq!(rt;
+        answer_with_more(alloc, "[[procedure]]\n", 63)?.as_str(),
+        "missing procedure[1].name"
+    );
+    assert_eq!(rt;
+        answer_with_more(alloc, "[[procedure]]\n", 64)?.as_str(),
+        "range procedure 65"
+    );
+    assert_eq!(rt;
+        answer_with_more(alloc, "[[cause]]\n", 4095)?.as_str(),
+        "missing cause[1].cpu"
+    );
+    assert_eq!(rt;
+        answer_with_more(alloc, "[[cause]]\n", 4096)?.as_str(),
+        "range cause 4097"
+    );
     Ok(())
 }

@@ -139,7 +139,7 @@ Rule p m i (label.Ready n) =
     (s.is_ready ≡ false) × (s.expired ≤ 1) × (n ≡ count_of m) × IsSomeAnd s.gathered (λ e. p.processors ≤ n + e))
 Rule p m i (label.Expire k) =
     IsBsp m i (λ s.
-    (s.is_ready ≡ false) × (s.expired + 1 ≡ k) × IsSomeAnd s.gathered (λ e. count_of m + e < p.processors))
+    (s.is_ready ≡ false) × (s.expired + 1 ≡ k) × (k ≤ 2) × IsSomeAnd s.gathered (λ e. count_of m + e < p.processors))
 Rule p m i (label.Close n) = IsBsp m i (λ s. (s.is_closed ≡ false) × (n ≡ count_of m) × HasWaited s)
 Rule p m i (label.Begin w) =
     IsBsp m i (λ s. (s.served ≡ Some w) × (s.serving ≡ None) × (s.is_closed ≡ true)) × AllReported m i
