@@ -54,6 +54,10 @@ def main():
     folder = pathlib.Path(sys.argv[1])
     folder.mkdir(parents=True, exist_ok=True)
     (folder / "one.toml").write_text(platform(1, 256, (71, 71), 1600, handler(0, WRITE)))
+    # the chipset looks as often as it may before a processor comes: as many events as one wave can make
+    (folder / "looks.toml").write_text(platform(1, 1, (4096, 4096), 64))
+    (folder / "looks.txt").write_text("1*3 1*8192 0*15 1*3 0*6")
+    (folder / "begins.txt").write_text("1*3")
     # 64 handlers of 64 operations and as many causes as fit: its parts are not built, so it is read and then named by status 9
     text = platform(64, 64, (8, 8), 8, "".join(handler(i, LAUNCH) for i in range(64)))
     for number in range(4096):

@@ -41,7 +41,7 @@ def measure(folder, name, words, entries):
     peak = max(turn[1] for turn in turns)
     last = (folder / "report.txt").read_bytes().splitlines()[-1].decode()
     rate = f"{entries / seconds / 1e6:8.1f} million entries/s" if entries else ""
-    print(f"{name:28} {seconds * 1000:9.1f} ms  {peak:8} KiB  status {turns[0][2]}  {rate}  {last}")
+    print(f"{name:34} {seconds * 1000:9.1f} ms  {peak:8} KiB  status {turns[0][2]}  {rate}  {last}")
 
 
 def main():
@@ -53,6 +53,9 @@ def main():
         for actors in (41943, 419430, 4194304):
             words = ["step", "one.toml", "one.smi", f"schedule_{actors}.txt", "after.smi"]
             measure(folder, f"schedule of {actors}", words, actors)
+        for schedule in ("begins.txt", "looks.txt"):
+            words = ["step", "looks.toml", "one.smi", schedule, "after.smi"]
+            measure(folder, f"{schedule}: few and many events", words, 0)
         words = ["step", "large.toml", "one.smi", "schedule_41943.txt", "after.smi"]
         measure(folder, f"platform of {(folder / 'large.toml').stat().st_size} bytes", words, 0)
         words = ["step", "one.toml", "many.smi", "schedule_41943.txt", "after.smi"]
