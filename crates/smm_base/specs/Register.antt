@@ -1,8 +1,11 @@
--- The numbers and the printed names of the registers of the save-state service.
-use Rattle.std.specs.Prelude.{ℕ, List, codes}
+-- The registers of the save-state service, their numbers and their printed names.
+use Rattle.std.specs.Prelude.{ℕ, Bool, List, Option, ◌==◌, codes, find, is_some}
+use Rattle.std.specs.Str.{bytes_eq}
+use Rattle.smm_base.specs.declared.registers.TheConstants.{REGISTERS}
 use Rattle.smm_base.specs.declared.registers.Register.{Register}
 use Rattle.smm_base.specs.declared.registers.Register.TheVariants.{GdtBase, IdtBase, LdtBase, GdtLimit, IdtLimit, LdtLimit, LdtInfo, Es, Cs, Ss, Ds, Fs, Gs, LdtrSel, TrSel, Dr7, Dr6, R8, R9, R10, R11, R12, R13, R14, R15, Rax, Rbx, Rcx, Rdx, Rsp, Rbp, Rsi, Rdi, Rip, Rflags, Cr0, Cr3, Cr4, Io, Lma, ProcessorId, AutoHalt, IoRestart}
 
+-- the number (UEFI PI Volume 4, EFI_MM_SAVE_STATE_REGISTER; 1024 and 1025 are this project's own)
 abbrev pub register_number : Register → ℕ
 register_number GdtBase = 4
 register_number IdtBase = 5
@@ -48,6 +51,7 @@ register_number ProcessorId = 514
 register_number AutoHalt = 1024
 register_number IoRestart = 1025
 
+-- the printed name
 abbrev pub register_text : Register → List ℕ
 register_text GdtBase = codes "GDTBASE"
 register_text IdtBase = codes "IDTBASE"
@@ -92,3 +96,19 @@ register_text Lma = codes "LMA"
 register_text ProcessorId = codes "PROCESSOR_ID"
 register_text AutoHalt = codes "AUTO_HALT"
 register_text IoRestart = codes "IO_RESTART"
+
+-- each register once, in the order of their numbers
+abbrev pub registers : List Register
+registers = REGISTERS
+
+-- the register with this number, where there is one
+abbrev pub register_numbered : ℕ → Option Register
+register_numbered number = find (λ register. register_number register == number) registers
+
+-- the register with this printed name, where there is one
+abbrev pub register_named : List ℕ → Option Register
+register_named text = find (λ register. bytes_eq (register_text register) text) registers
+
+-- some register has this number
+abbrev pub is_register_number : ℕ → Bool
+is_register_number number = is_some (register_numbered number)

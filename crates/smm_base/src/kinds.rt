@@ -1,15 +1,20 @@
-ghost use Rattle.std.specs.Prelude.{◌≡◌, ◌&&◌, IsTrue};
-ghost use Rattle.smm_base.specs.Kinds.{is_io_length, is_io_type};
+ghost use Rattle.std.specs.Prelude.{◌≡◌, ◌&&◌, IsTrue, Some};
+ghost use Rattle.smm_base.specs.Kinds.{is_io_length, is_io_type, type_text, after_text};
 
-/// The save-state map of a processor: the 512 bytes of the 32-bit map, or the 1,024 bytes of the
-/// Intel 64 map (Intel SDM Volume 3, System Management Mode).
+use std::fmt;
+use uuid::Uuid;
+
+/// The save-state map of a processor (Intel SDM Volume 3, System Management Mode, "SMRAM State Save Map").
 #[derive(Clone, Copy, Debug, PartialEq, Eq)]
 pub enum MapKind {
+    /// The 32-bit map: 512 bytes from SMBASE + 7E00H.
     Ia32,
+    /// The map of Intel 64: 1,024 bytes from SMBASE + 7C00H.
     Intel64,
 }
 
-/// How a resumed processor goes on. This is the project's own summary of what RSM does.
+/// How a resumed processor goes on. This is the project's own summary of what RSM does (Intel SDM Volume 3,
+/// "Auto HALT Restart" and "I/O Instruction Restart").
 #[derive(Clone, Copy, Debug, PartialEq, Eq)]
 pub enum After {
     /// It executes HLT again (Auto HALT restart).
@@ -20,12 +25,38 @@ pub enum After {
     Retry,
 }
 
+/// Writes `halt`, `next` or `retry`.
+impl fmt::Display for After {
+    ghost output = { λ after. Some (after_text after) };
+
+    fn fmt<W: fmt::Write>(&self, f: &mut fmt::Formatter<W>) -> fmt::Result {
+        f.write_str(match self {
+            After::Halt => "halt",
+            After::Next => "next",
+            After::Retry => "retry",
+        })
+    }
+}
+
 /// Which list a handler is registered on and a walk goes over: the root list, or that of one GUID.
 #[derive(Clone, Copy, Debug, PartialEq, Eq)]
 pub enum HandlerType {
+    /// The root list: handlers that were registered with no GUID (UEFI PI Volume 4, `MmiHandlerRegister`).
     Root,
     /// The GUID's 128 bits in the order of its text, the first digit highest.
     Typed(u128),
+}
+
+/// Writes `root`, or the GUID in lower case with hyphens.
+impl fmt::Display for HandlerType {
+    ghost output = { λ kind. Some (type_text kind) };
+
+    fn fmt<W: fmt::Write>(&self, f: &mut fmt::Formatter<W>) -> fmt::Result {
+        match self {
+            HandlerType::Root => f.write_str("root"),
+            HandlerType::Typed(guid) => Uuid::from_u128(*guid).fmt(f),
+        }
+    }
 }
 
 /// Who may become the boot processor of a session.
@@ -43,7 +74,8 @@ pub struct IoCause {
     pub port: u16,
     /// The operand's size in bytes: 1, 2 or 4.
     pub length: u8,
-    /// The type of the I/O state field: 0, 1, 2, 3, 6, 7, 8 or 9.
+    /// The type of the I/O state field (Intel SDM Volume 3, "SMM I/O State"): 0 OUT DX, 1 IN DX, 2 OUTS,
+    /// 3 INS, 6 REP OUTS, 7 REP INS, 8 OUT immediate, 9 IN immediate.
     pub kind: u8,
     ghost length_is_valid: { IsTrue (is_io_length length) },
     ghost kind_is_valid: { IsTrue (is_io_type kind) },
@@ -54,5 +86,6 @@ pub struct IoCause {
 pub struct Cause {
     /// It was in the HLT state.
     pub halt: bool,
+    /// The I/O instruction that it came at, if it came at one.
     pub io: Option<IoCause>,
 }

@@ -19,7 +19,7 @@ pub use kinds::{After, Cause, HandlerType, IoCause, MapKind, Policy};
 pub use mem_sink::MemSink;
 pub use mem_store::MemStore;
 pub use memory::NoMemory;
-pub use registers::Register;
+pub use registers::{REGISTERS, Register, register_laws};
 pub use sink::{Sink, WriteError, write_all};
 pub use status::Status;
 pub use std_sink::StdSink;

@@ -1,18 +1,26 @@
-ghost use Rattle.std.specs.Prelude.{◌≡◌};
-ghost use Rattle.smm_base.specs.Register.{register_number, register_text};
+ghost use Rattle.std.specs.Prelude.{◌≡◌, ℕ, IfSome, Some};
+ghost use Rattle.smm_base.specs.Register.{register_number, register_text, register_named, register_numbered};
+ghost use Rattle.smm_base.specs.declared.registers.Register.{Register as RegisterSpec};
 
 use std::fmt;
 
-/// A register of the CPU save-state service, by the names of UEFI PI Volume 4
-/// (EFI_SMM_SAVE_STATE_REGISTER). The last two are this project's own.
+/// A register of the CPU save-state service, by its name in UEFI PI Volume 4 (EFI_MM_SAVE_STATE_REGISTER
+/// of EFI_MM_CPU_PROTOCOL). The last two are this project's own.
 #[derive(Clone, Copy, Debug, PartialEq, Eq)]
 pub enum Register {
+    /// The base address of the GDT.
     GdtBase,
+    /// The base address of the IDT.
     IdtBase,
+    /// The base address of the LDT.
     LdtBase,
+    /// The limit of the GDT. No map here has it.
     GdtLimit,
+    /// The limit of the IDT. No map here has it.
     IdtLimit,
+    /// The limit of the LDT. No map here has it.
     LdtLimit,
+    /// The attributes of the LDT. No map here has it.
     LdtInfo,
     Es,
     Cs,
@@ -20,7 +28,9 @@ pub enum Register {
     Ds,
     Fs,
     Gs,
+    /// The selector in LDTR.
     LdtrSel,
+    /// The selector in TR.
     TrSel,
     Dr7,
     Dr6,
@@ -45,15 +55,67 @@ pub enum Register {
     Cr0,
     Cr3,
     Cr4,
+    /// The I/O instruction that the interrupt came at: 24 bytes of answer, not a field.
     Io,
+    /// The processor's mode, 32 or 64, as one byte.
     Lma,
+    /// The processor's id, as eight bytes.
     ProcessorId,
+    /// The Auto HALT restart word: the project's own number.
     AutoHalt,
+    /// The I/O instruction restart word: the project's own number.
     IoRestart,
 }
 
+/// Each register once, in the order of their numbers.
+pub static REGISTERS: [Register; 43] = [
+    Register::GdtBase,
+    Register::IdtBase,
+    Register::LdtBase,
+    Register::GdtLimit,
+    Register::IdtLimit,
+    Register::LdtLimit,
+    Register::LdtInfo,
+    Register::Es,
+    Register::Cs,
+    Register::Ss,
+    Register::Ds,
+    Register::Fs,
+    Register::Gs,
+    Register::LdtrSel,
+    Register::TrSel,
+    Register::Dr7,
+    Register::Dr6,
+    Register::R8,
+    Register::R9,
+    Register::R10,
+    Register::R11,
+    Register::R12,
+    Register::R13,
+    Register::R14,
+    Register::R15,
+    Register::Rax,
+    Register::Rbx,
+    Register::Rcx,
+    Register::Rdx,
+    Register::Rsp,
+    Register::Rbp,
+    Register::Rsi,
+    Register::Rdi,
+    Register::Rip,
+    Register::Rflags,
+    Register::Cr0,
+    Register::Cr3,
+    Register::Cr4,
+    Register::Io,
+    Register::Lma,
+    Register::ProcessorId,
+    Register::AutoHalt,
+    Register::IoRestart,
+];
+
 impl Register {
-    /// The register's number: that of UEFI PI Volume 4, or 1024 and 1025 of this project's own.
+    /// The register's number in UEFI PI Volume 4, or 1024 and 1025 of this project's own.
     pub fn number(self) -> u32
         ensures { result ≡ register_number self }
     {
@@ -154,10 +216,42 @@ impl Register {
             Register::IoRestart => "IO_RESTART",
         }
     }
+
+    /// The register with this number, where there is one.
+    pub fn numbered(number: u32) -> Option<Register>
+        ensures { result ≡ register_numbered number }
+    {
+        REGISTERS
+            .iter()
+            .copied()
+            .find(|register| register.number() == number)
+    }
+
+    /// The register with this printed name, where there is one.
+    pub fn named(text: &str) -> Option<Register>
+        ensures { result ≡ register_named text.now }
+    {
+        REGISTERS
+            .iter()
+            .copied()
+            .find(|register| register.name() == text)
+    }
 }
 
+/// Writes the name.
 impl fmt::Display for Register {
+    ghost output = { λ register. Some (register_text register) };
+
     fn fmt<W: fmt::Write>(&self, f: &mut fmt::Formatter<W>) -> fmt::Result {
         f.write_str(self.name())
     }
 }
+
+/// The laws of the list of registers. It does nothing when it runs.
+pub fn register_laws()
+    // Each register is found by its number, so no number stands for two of them.
+    ensures numbers { (register : RegisterSpec) → register_numbered (register_number register) ≡ Some register }
+
+    // Each register is found by its name, so no name stands for two of them.
+    ensures names { (register : RegisterSpec) → register_named (register_text register) ≡ Some register }
+{}

@@ -1,22 +1,37 @@
-ghost use Rattle.std.specs.Prelude.{◌≡◌};
+ghost use Rattle.std.specs.Prelude.{◌≡◌, Some};
 ghost use Rattle.smm_base.specs.Status.{status_text};
 
 use std::fmt;
 
-/// The status of a call, a handler or a walk, by the names of UEFI's status codes.
+/// The status of a call, a handler or a walk, by the names of UEFI's status codes (UEFI Specification,
+/// appendix "Status Codes") and of the answers of handlers in UEFI PI Volume 4.
 #[derive(Clone, Copy, Debug, PartialEq, Eq)]
 pub enum Status {
+    /// It did what was asked.
     Success,
+    /// An argument is wrong.
     InvalidParameter,
+    /// The register may not be written, or not in this way.
     Unsupported,
+    /// It can't be answered now; it may be later.
     NotReady,
+    /// There is no room left.
     OutOfResources,
+    /// A walk over handlers stood too deep.
     AccessDenied,
+    /// What was named is not there.
     NotFound,
+    /// The time that was given ran out.
     Timeout,
+    /// The walk was ended before its handlers were done.
     Aborted,
+    /// A handler's answer: the interrupt could not be quiesced (EFI_INTERRUPT_PENDING).
     InterruptPending,
+    /// A handler's answer: the source may still have an interrupt pending
+    /// (EFI_WARN_INTERRUPT_SOURCE_PENDING).
     SourcePending,
+    /// A handler's answer: the source is quiesced, and other handlers are still called
+    /// (EFI_WARN_INTERRUPT_SOURCE_QUIESCED).
     SourceQuiesced,
 }
 
@@ -42,7 +57,10 @@ impl Status {
     }
 }
 
+/// Writes the name.
 impl fmt::Display for Status {
+    ghost output = { λ status. Some (status_text status) };
+
     fn fmt<W: fmt::Write>(&self, f: &mut fmt::Formatter<W>) -> fmt::Result {
         f.write_str(self.name())
     }

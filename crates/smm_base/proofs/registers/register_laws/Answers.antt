@@ -1,0 +1,19 @@
+use Rattle.std.specs.Prelude.{◌≡◌, Some, refl}
+use Rattle.smm_base.specs.declared.registers.Register.{Register}
+use Rattle.smm_base.specs.declared.registers.Register.TheVariants.{GdtBase}
+use Rattle.smm_base.specs.Register.{register_number, register_text, register_named, register_numbered}
+use Rattle.smm_base.proofs.registers.register_laws.Goals as goal
+
+by_number : (register : Register) → register_numbered (register_number register) ≡ Some register
+by_number GdtBase = refl
+by_number _ = refl
+
+by_name : (register : Register) → register_named (register_text register) ≡ Some register
+by_name GdtBase = refl
+by_name _ = refl
+
+pub returns-clause-numbers : goal.returns-clause-numbers
+returns-clause-numbers c = by_number
+
+pub returns-clause-names : goal.returns-clause-names
+returns-clause-names c = by_name
