@@ -37,13 +37,17 @@ impl<R: Files> DirStore<R> {
 
 impl<R: Files> Store for DirStore<R> {
     ghost use Rattle.std.specs.Prelude.{None};
-    ghost use Rattle.smm_base.specs.DirStore.{failed_loads_of, failed_saves_of};
+    ghost use Rattle.smm_base.specs.DirStore.{failed_loads_of, failed_saves_of, Moves};
 
     ghost files = { λ _. None };
 
     ghost failed_loads = { failed_loads_of };
 
     ghost failed_saves = { failed_saves_of };
+
+    ghost fails_next = { λ _. None };
+
+    ghost moves = { Moves };
 
     fn load(&mut self, alloc: Global, name: &str, limit: u64) -> Result<Vec<u8>, LoadError> {
         match load_file(&self.runtime, alloc, name, limit) {
@@ -64,6 +68,10 @@ impl<R: Files> Store for DirStore<R> {
             Err(SaveError::Failed)
         }
     }
+
+    ghost loads_never_fall = { λ before after moved. moved.loads };
+
+    ghost saves_never_fall = { λ before after moved. moved.saves };
 }
 
 // Reads a file to its end, or refuses it.

@@ -16,7 +16,7 @@ pub struct MemSink {
 }
 
 impl MemSink {
-    ghost use Rattle.smm_base.specs.MemSink.{bytes_of, failing_of, calls_of, faults_of, most_of, KeepsAll};
+    ghost use Rattle.smm_base.specs.MemSink.{bytes_of, failing_of, calls_of, next_call, fails_at_next, faults_of, most_of, KeepsAll};
 
     /// A sink without bytes, which takes at most `most` bytes a call. The calls with the numbers in
     /// `fails` fail, the first call being 1.
@@ -47,8 +47,8 @@ impl MemSink {
 
     // Counts a call, and says whether it is to fail.
     fn next_call_fails(&mut self) -> bool
-        ensures counted { calls_of self.new ≡ min (calls_of self.old + 1) (2 ^ 64 - 1) }
-        ensures listed { result ≡ list_any (λ number. number == calls_of self.new) (failing_of self.old) }
+        ensures counted { calls_of self.new ≡ next_call self.old }
+        ensures listed { result ≡ fails_at_next self.old }
         ensures rest_stays { KeepsAll self.old self.new }
     {
         self.calls = self.calls.saturating_add(1);
@@ -58,11 +58,17 @@ impl MemSink {
 
 impl Sink for MemSink {
     ghost use Rattle.std.specs.Prelude.{Some};
-    ghost use Rattle.smm_base.specs.MemSink.{bytes_of, faults_of};
+    ghost use Rattle.smm_base.specs.MemSink.{bytes_of, faults_of, fails_at_next, most_of, Moves};
 
     ghost written = { λ sink. Some (bytes_of sink) };
 
     ghost faults = { faults_of };
+
+    ghost fails_next = { λ sink. Some (fails_at_next sink) };
+
+    ghost most = { λ sink. Some (most_of sink) };
+
+    ghost moves = { Moves };
 
     fn write(&mut self, piece: &[u8]) -> Result<usize, WriteError> {
         if self.next_call_fails() {
@@ -73,4 +79,6 @@ impl Sink for MemSink {
         self.taken.extend_from_slice(&piece[..count])?;
         Ok(count)
     }
+
+    ghost never_falls = { λ before after moved. moved.count };
 }

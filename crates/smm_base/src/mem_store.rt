@@ -17,7 +17,7 @@ pub struct MemStore {
 }
 
 impl MemStore {
-    ghost use Rattle.smm_base.specs.MemStore.{file_of, failing_of, calls_of, KeepsFiles, failed_loads_of, failed_saves_of, KeepsCounts};
+    ghost use Rattle.smm_base.specs.MemStore.{file_of, failing_of, calls_of, next_call, fails_at_next, KeepsFiles, failed_loads_of, failed_saves_of, KeepsCounts};
 
     /// A store without files, whose calls don't fail.
     pub fn new(alloc: Global) -> Result<Self, NoMemory>
@@ -47,6 +47,8 @@ impl MemStore {
         ensures held { OnOk result (file_of self.new name.now ≡ Option.Some bytes.now) }
         ensures others_stay { (other : List ℕ) → other ≢ name.now → file_of self.new other ≡ file_of self.old other }
         ensures refused { OnErr result (file_of self.new ≡ file_of self.old) }
+        ensures calls_stay { calls_of self.new ≡ calls_of self.old }
+        ensures numbers_stay { failing_of self.new ≡ failing_of self.old }
         ensures counts_stay { KeepsCounts self.old self.new }
     {
         let key = String::from_str(self.alloc, name)?;
@@ -76,8 +78,8 @@ impl MemStore {
 
     // Counts a call, and says whether it is to fail.
     fn next_call_fails(&mut self) -> bool
-        ensures counted { calls_of self.new ≡ min (calls_of self.old + 1) (2 ^ 64 - 1) }
-        ensures listed { result ≡ list_any (λ number. number == calls_of self.new) (failing_of self.old) }
+        ensures counted { calls_of self.new ≡ next_call self.old }
+        ensures listed { result ≡ fails_at_next self.old }
         ensures numbers_stay { failing_of self.new ≡ failing_of self.old }
         ensures files_stay { KeepsFiles self.old self.new }
         ensures counts_stay { KeepsCounts self.old self.new }
@@ -89,13 +91,17 @@ impl MemStore {
 
 impl Store for MemStore {
     ghost use Rattle.std.specs.Prelude.{Some};
-    ghost use Rattle.smm_base.specs.MemStore.{file_of, failed_loads_of, failed_saves_of};
+    ghost use Rattle.smm_base.specs.MemStore.{file_of, failed_loads_of, failed_saves_of, fails_at_next, Moves};
 
     ghost files = { λ store. Some (file_of store) };
 
     ghost failed_loads = { failed_loads_of };
 
     ghost failed_saves = { failed_saves_of };
+
+    ghost fails_next = { λ store. Some (fails_at_next store) };
+
+    ghost moves = { Moves };
 
     fn load(&mut self, alloc: Global, name: &str, limit: u64) -> Result<Vec<u8>, LoadError> {
         if self.next_call_fails() {
@@ -119,4 +125,8 @@ impl Store for MemStore {
         self.put(name, bytes)?;
         Ok(())
     }
+
+    ghost loads_never_fall = { λ before after moved. moved.loads };
+
+    ghost saves_never_fall = { λ before after moved. moved.saves };
 }

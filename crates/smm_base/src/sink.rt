@@ -1,4 +1,5 @@
-ghost use Rattle.std.specs.Prelude.{◌≡◌, ℕ, ◌<◌, ◌≤◌, Option, List, length, take, IfOk, IsErrOf, OnErr, OnOk};
+ghost use Rattle.std.specs.Prelude.{◌≡◌, ◌⊎◌, ℕ, ◌<◌, ◌≤◌, Bool, Option, List, length, min, take, IfOk, IfSome, IsErrOf, IsTrue, OnErr, OnOk, ◌↔◌};
+ghost use Rattle.smm_base.specs.Calls.{Leads};
 ghost use Rattle.smm_base.specs.Faults.{Rose};
 ghost use Rattle.smm_base.specs.Sink.{appended, GainsPrefix};
 ghost use Rattle.smm_base.specs.declared.sink.WriteError.TheVariants.{NoMemory as no_memory_of_write};
@@ -31,6 +32,15 @@ pub trait Sink {
     /// How many writes have failed.
     ghost faults: { Self → ℕ };
 
+    /// Whether the next write fails, where the sink tells it.
+    ghost fails_next: { Self → Option Bool };
+
+    /// How many bytes of a piece a write takes at most, where the sink tells it: then it takes as many.
+    ghost most: { Self → Option ℕ };
+
+    /// What one write makes of the sink.
+    ghost moves: { Self → Self → Type 0 };
+
     /// Writes the first bytes of a piece, and answers how many. That can be fewer than the piece
     /// has; it is none of a piece that isn't empty only where the count of faults rose.
     ///
@@ -44,7 +54,13 @@ pub trait Sink {
         ensures takes_none { IfOk result (λ n. n ≡ 0 → 0 < length piece.now → Rose (faults self.old) (faults self.new)) }
         ensures failed { IsErrOf result WriteError.Failed → Rose (faults self.old) (faults self.new) }
         ensures refused { OnErr result (written self.new ≡ written self.old) }
-        ensures never_falls { faults self.old ≤ faults self.new };
+        ensures stated { IfSome (fails_next self.old) (λ fails. IsErrOf result WriteError.Failed ↔ IsTrue fails) }
+        ensures taken { IfOk result (λ n. IfSome (most self.old) (λ most. n ≡ min (length piece.now) most)) }
+        ensures quiet { IfOk result (λ n. (0 < n) ⊎ (length piece.now ≡ 0) → faults self.new ≡ faults self.old) }
+        ensures moved { moves self.old self.new };
+
+    /// Along a write the count doesn't fall.
+    ghost never_falls: { (before after : Self) → moves before after → faults before ≤ faults after };
 }
 
 /// Writes a whole piece, in as many writes as the sink needs.
@@ -57,7 +73,7 @@ pub fn write_all<K: Sink>(out: &mut K, piece: &[u8]) -> Result<(), WriteError>
     ensures appends { OnOk result (K.written out.new ≡ appended (K.written out.old) piece.now) }
     ensures prefix { OnErr result (GainsPrefix (K.written out.old) (K.written out.new) piece.now) }
     ensures failed { IsErrOf result WriteError.Failed → Rose (K.faults out.old) (K.faults out.new) }
-    ensures never_falls { K.faults out.old ≤ K.faults out.new }
+    ensures moved { Leads K.moves out.old out.new }
 {
     let mut done = 0;
     while done < piece.len() {

@@ -25,15 +25,21 @@ impl<R: Print> StdSink<R> {
 
 impl<R: Print> Sink for StdSink<R> {
     ghost use Rattle.std.specs.Prelude.{None};
-    ghost use Rattle.smm_base.specs.StdSink.{faults_of};
+    ghost use Rattle.smm_base.specs.StdSink.{faults_of, Moves};
 
     ghost written = { λ _. None };
 
     ghost faults = { faults_of };
 
+    ghost fails_next = { λ _. None };
+
+    ghost most = { λ _. None };
+
+    ghost moves = { Moves };
+
     fn write(&mut self, piece: &[u8]) -> Result<usize, WriteError> {
         match self.runtime.write_some(piece) {
-            Ok(0) => {
+            Ok(0) if !piece.is_empty() => {
                 self.fault_count = self.fault_count.saturating_add(1);
                 Ok(0)
             }
@@ -44,4 +50,6 @@ impl<R: Print> Sink for StdSink<R> {
             }
         }
     }
+
+    ghost never_falls = { λ before after moved. moved };
 }

@@ -1,4 +1,4 @@
-ghost use Rattle.std.specs.Prelude.{◌≡◌, ℕ, ◌<◌, ◌≤◌, Option, None, length, vec_len, IfOk, IfSome, IsErrOf, IsSomeAnd, MatchOption, OnOk};
+ghost use Rattle.std.specs.Prelude.{◌≡◌, ℕ, ◌<◌, ◌≤◌, Bool, Option, None, length, vec_len, IfOk, IfSome, IsErrOf, IsSomeAnd, IsTrue, MatchOption, OnOk, ◌↔◌};
 ghost use Rattle.smm_base.specs.Faults.{Rose};
 ghost use Rattle.smm_base.specs.Store.{ChangesOnly, FileMap, RefusesWith};
 ghost use Rattle.smm_base.specs.declared.store.LoadError.TheVariants.{NoMemory as no_memory_of_load};
@@ -56,6 +56,12 @@ pub trait Store {
     /// How many saves have failed.
     ghost failed_saves: { Self → ℕ };
 
+    /// Whether the next call fails, where the store tells it.
+    ghost fails_next: { Self → Option Bool };
+
+    /// What one call, a load or a save, makes of the store.
+    ghost moves: { Self → Self → Type 0 };
+
     /// The content of a file, of at most `limit` bytes. The files stay as they were.
     ///
     /// # Errors
@@ -78,9 +84,10 @@ pub trait Store {
             held name.now ≡ None → RefusesWith LoadError.Missing result) }
         ensures longer { IfSome (files self.old) (λ held. IfSome (held name.now) (λ bytes.
             limit < length bytes → RefusesWith LoadError.TooLong result)) }
+        ensures stated { IfSome (fails_next self.old) (λ fails. IsErrOf result LoadError.Failed ↔ IsTrue fails) }
+        ensures quiet { OnOk result (failed_loads self.new ≡ failed_loads self.old) }
         ensures files_stay { files self.new ≡ files self.old }
-        ensures loads_never_fall { failed_loads self.old ≤ failed_loads self.new }
-        ensures saves_never_fall { failed_saves self.old ≤ failed_saves self.new };
+        ensures moved { moves self.old self.new };
 
     /// Puts a content under a name, in the place of what it held. Other names stay as they were.
     ///
@@ -93,6 +100,12 @@ pub trait Store {
         ensures others_stay { ChangesOnly name.now (files self.old) (files self.new) }
         ensures failed { IsErrOf result SaveError.Failed → Rose (failed_saves self.old) (failed_saves self.new) }
         ensures no_memory { IsErrOf result SaveError.NoMemory → files self.new ≡ files self.old }
-        ensures loads_never_fall { failed_loads self.old ≤ failed_loads self.new }
-        ensures saves_never_fall { failed_saves self.old ≤ failed_saves self.new };
+        ensures stated { IfSome (fails_next self.old) (λ fails. IsErrOf result SaveError.Failed ↔ IsTrue fails) }
+        ensures quiet { OnOk result (failed_saves self.new ≡ failed_saves self.old) }
+        ensures moved { moves self.old self.new };
+
+    /// Along a call no count falls.
+    ghost loads_never_fall: { (before after : Self) → moves before after → failed_loads before ≤ failed_loads after };
+
+    ghost saves_never_fall: { (before after : Self) → moves before after → failed_saves before ≤ failed_saves after };
 }

@@ -1,6 +1,6 @@
 use crate::{
-    DirStore, Gate, LoadError, MemSink, MemStore, OpenGate, SaveError, Sink, StdSink, Store,
-    WriteError, write_all,
+    DirStore, Gate, LoadError, MemSink, MemStore, OpenGate, SaveError, Sink, Store, WriteError,
+    write_all,
 };
 use std::fs;
 use std::test::Fail;
@@ -63,13 +63,6 @@ fn the_working_folder_keeps_a_file(rt: HostRuntime) -> Result<(), Fail> {
     assert_eq!(rt; missing, Some(LoadError::Missing));
     assert_eq!(rt; store.load(alloc, ".", 3).err(), Some(LoadError::Failed));
     assert_eq!(rt; store.save(".", b"abc"), Err(SaveError::Failed));
-    Ok(())
-}
-
-#[test]
-fn the_standard_output_takes_a_piece(rt: HostRuntime) -> Result<(), Fail> {
-    let mut sink = StdSink::new(&rt);
-    assert_eq!(rt; write_all(&mut sink, b"written\n"), Ok(()));
     Ok(())
 }
 

@@ -1,4 +1,5 @@
 use Rattle.std.proofs.Common.{length, ◌-◌, ◌≡◌, ◌≤◌, take}
+use Rattle.smm_base.specs.Calls.{Leads}
 use Rattle.smm_base.specs.Sink.{appended}
 use Rattle.smm_base.proofs.sink.write_all.Given as goal
 
@@ -6,7 +7,7 @@ abbrev pub invariant-loop-done : goal.invariant-loop-done
 invariant-loop-done g l = record {
   within : l.done ≤ length l.piece;
   written : g.K.Sink.written l.out ≡ appended (g.K.Sink.written l.fn.out) (take l.done l.piece);
-  never_fell : g.K.Sink.faults l.fn.out ≤ g.K.Sink.faults l.out;
+  moved : Leads g.K.Sink.moves l.fn.out l.out;
 }
 
 abbrev pub decreases-loop-done : goal.decreases-loop-done
