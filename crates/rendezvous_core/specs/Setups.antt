@@ -7,7 +7,7 @@ use Rattle.smm_base.specs.declared.kinds.HandlerType.TheVariants.{Root}
 use Rattle.smm_base.specs.declared.kinds.Policy.{Policy}
 use Rattle.smm_base.specs.declared.kinds.Policy.TheVariants.{Elected}
 use Rattle.smm_base.specs.declared.registers.Register.{Register}
-use Rattle.save_state_access.specs.Table.{register_numbered}
+use Rattle.smm_base.specs.Register.{register_numbered}
 use Rattle.save_state_map.specs.Images.{ImageContents}
 use Rattle.cpu_table.specs.declared.handlers.HandlerDef.{HandlerDef}
 use Rattle.cpu_table.specs.declared.handlers.OpDef.{OpDef}
