@@ -6,7 +6,7 @@ use save_state_map::Field;
 use smm_base::{MapKind, Register};
 
 /// The fields of an image that a register is made of.
-#[derive(Clone, Copy, Debug, PartialEq, Eq)]
+#[derive(Clone, Copy, PartialEq, Eq)]
 pub enum Parts {
     /// No field of either map.
     Missing,

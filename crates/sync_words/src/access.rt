@@ -66,7 +66,7 @@ impl fmt::Display for Access {
 }
 
 /// What an access does to the number that it finds.
-#[derive(Clone, Copy, Debug, PartialEq, Eq)]
+#[derive(Clone, Copy, PartialEq, Eq)]
 pub enum Applied {
     /// The word has a new number.
     Changed { new: u32, found: u32 },

@@ -21,7 +21,7 @@ pub struct Event {
 
 /// What changes hands where an access changes its word: a desk by its processor's number, or the
 /// chair by the number of processors.
-#[derive(Clone, Copy, Debug, PartialEq, Eq)]
+#[derive(Clone, Copy, PartialEq, Eq)]
 pub enum Hand {
     /// Nothing changes hands.
     Nothing,
@@ -32,7 +32,7 @@ pub enum Hand {
 }
 
 /// What an actor wants to do next.
-#[derive(Clone, Copy, Debug, PartialEq, Eq)]
+#[derive(Clone, Copy, PartialEq, Eq)]
 pub enum Want {
     /// An access to a word, with what changes hands at it.
     Access {

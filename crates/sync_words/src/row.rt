@@ -1,7 +1,7 @@
 /// Where an actor that isn't off stands in the protocol: each row wants one access. A number is that
 /// of the row's own loop, a processor or the looks made so far. The rows are the project's own, after the
 /// rendezvous of EDK II's PiSmmCpuDxeSmm in outline.
-#[derive(Clone, Copy, Debug, PartialEq, Eq)]
+#[derive(Clone, Copy, PartialEq, Eq)]
 pub enum Row {
     // A processor's rows.
     /// Waits for an interrupt.
