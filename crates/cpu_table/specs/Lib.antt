@@ -1,4 +1,5 @@
 pub mod Data
 pub mod Distinct
+pub mod Layout
 pub mod Ranges
 pub mod Table

@@ -5,6 +5,7 @@
 mod copying;
 mod handlers;
 mod items;
+mod layout;
 mod setup;
 mod table;
 mod text;
@@ -13,6 +14,7 @@ mod waves;
 pub use copying::TryCopy;
 pub use handlers::{Act, HandlerDef, OpDef, Operand, ProcedureDef};
 pub use items::Items;
+pub use layout::{LayoutError, layout_fault};
 pub use setup::{CauseAt, Mode, Setup, Smram};
 pub use smm_base::{HandlerType, Policy};
 pub use table::{CpuTable, TableError};
