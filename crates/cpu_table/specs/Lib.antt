@@ -3,3 +3,4 @@ pub mod Distinct
 pub mod Layout
 pub mod Ranges
 pub mod Table
+pub mod Texts

@@ -2,6 +2,7 @@ ghost use Rattle.std.specs.Prelude.{◌≡◌, ◌≤◌, ◌+◌, IsTrue};
 ghost use Rattle.cpu_table.specs.Layout.{is_tile, areas_end, layout_refusal};
 
 use crate::setup::Smram;
+use std::fmt;
 
 /// Where the default area ends, 40000H: the area of an SMBASE of 30000H (Intel SDM, Volume 3).
 const DEFAULT_AREA_END: u64 = 262144;
@@ -23,6 +24,23 @@ pub enum LayoutError {
     Low(u64),
     /// The areas end behind the end of SMRAM; where they end.
     PastEnd(u64),
+}
+
+/// The cause, and behind it the number: `bad-tile T`, `code-too-long C`, `low B` or `past-end E`.
+impl fmt::Display for LayoutError {
+    ghost use Rattle.std.specs.Prelude.{Some};
+    ghost use Rattle.cpu_table.specs.Texts.{layout_error_text};
+
+    ghost output = { λ error. Some (layout_error_text error) };
+
+    fn fmt<W: fmt::Write>(&self, f: &mut fmt::Formatter<W>) -> fmt::Result {
+        match self {
+            LayoutError::BadTile(tile) => write!(f, "bad-tile {tile}"),
+            LayoutError::CodeTooLong(code) => write!(f, "code-too-long {code}"),
+            LayoutError::Low(base) => write!(f, "low {base}"),
+            LayoutError::PastEnd(end) => write!(f, "past-end {end}"),
+        }
+    }
 }
 
 // May two processors' areas be this far apart?

@@ -11,7 +11,6 @@ mod table;
 mod text;
 mod waves;
 
-pub use copying::TryCopy;
 pub use handlers::{Act, HandlerDef, OpDef, Operand, ProcedureDef};
 pub use items::Items;
 pub use layout::{LayoutError, layout_fault};
@@ -20,6 +19,3 @@ pub use smm_base::{HandlerType, Policy};
 pub use table::{CpuTable, TableError};
 pub use text::Text;
 pub use waves::{Arrival, Wave};
-
-#[cfg(test)]
-mod tests;

@@ -5,14 +5,14 @@ ghost use Rattle.cpu_table.specs.Distinct.{are_distinct};
 ghost use Rattle.cpu_table.specs.Ranges.{is_name, same_text, is_answer, op_fits, handler_fits, handlers_fit};
 ghost use Rattle.platform_file.specs.Reading.{StopsAt, each, path_to, word_at};
 ghost use Rattle.platform_file.specs.Words.{answer_of};
-ghost use Rattle.platform_file.specs.declared.path.Place.TheVariants as place;
+ghost use Rattle.platform_file.specs.declared.path.TablePlace.TheVariants as place;
 ghost use Rattle.platform_file.specs.Handlers.{name_unless, name_at, has_handler, operations_at, handler_in, handler_after, handlers_in, handlers_at};
 
 use crate::document::{entry_of, list_at, refuse_others, text_at, word_at};
-use crate::fault::Fault;
+use crate::fault::WalkFault;
 use crate::head::handler_entries;
 use crate::operations::operations_of;
-use crate::path::{Key, Path, Place};
+use crate::path::{Key, Path, TablePlace};
 use cpu_table::{HandlerDef, Items, OpDef, Text};
 use smm_base::Status;
 use std::alloc::Global;
@@ -25,7 +25,7 @@ fn key(at: usize, key: Key) -> Path
     ensures { result ≡ path_to (place.Handler at) key }
 {
     Path {
-        place: Place::Handler(at),
+        place: TablePlace::Handler(at),
         key,
     }
 }
@@ -39,13 +39,13 @@ pub fn is_name(name: &Text) -> bool
 }
 
 /// A name that is too short or too long, or taken, is refused.
-pub fn name_after(name: Text, is_taken: bool, path: Path) -> Result<Text, Fault>
+pub fn name_after(name: Text, is_taken: bool, path: Path) -> Result<Text, WalkFault>
     ensures { result ≡ name_unless is_taken path name }
 {
     if is_name(&name) && !is_taken {
         Ok(name)
     } else {
-        Err(Fault::Word(path))
+        Err(WalkFault::Word(path))
     }
 }
 
@@ -58,7 +58,7 @@ fn is_taken(done: &[HandlerDef], name: &Text) -> bool
 }
 
 // The name of the next handler.
-fn name_at(alloc: Global, table: &Table, done: &[HandlerDef], path: Path) -> Result<Text, Fault>
+fn name_at(alloc: Global, table: &Table, done: &[HandlerDef], path: Path) -> Result<Text, WalkFault>
     ensures name { IfOk result (λ name. name_at (has_handler done.now) path (table_view table.now) ≡ Ok name) }
     ensures fits { IfOk result (λ name. IsTrue (is_name name)) }
     ensures fresh { IfOk result (λ name. IsFalse (has_handler done.now name)) }
@@ -70,7 +70,7 @@ fn name_at(alloc: Global, table: &Table, done: &[HandlerDef], path: Path) -> Res
 }
 
 // The status that a handler answers with.
-fn answer_at(table: &Table, path: Path) -> Result<Status, Fault>
+fn answer_at(table: &Table, path: Path) -> Result<Status, WalkFault>
     ensures answer { result ≡ word_at path answer_of (table_view table.now) }
     ensures fits { IfOk result (λ answer. IsTrue (is_answer answer)) }
 {
@@ -83,7 +83,7 @@ fn operations_at(
     table: &Table,
     at: usize,
     handlers: &[Value],
-) -> Result<Items<OpDef>, Fault>
+) -> Result<Items<OpDef>, WalkFault>
     requires { length handlers.now ≤ 64 }
     ensures operations { IfOk result (λ operations. operations_at (map view handlers.now) at (table_view table.now) ≡ Ok operations) }
     ensures few { IfOk result (λ operations. length operations ≤ 64) }
@@ -101,7 +101,7 @@ fn handler_in(
     table: &Table,
     done: &[HandlerDef],
     handlers: &[Value],
-) -> Result<HandlerDef, Fault>
+) -> Result<HandlerDef, WalkFault>
     requires { length handlers.now ≤ 64 }
     ensures handler { IfOk result (λ handler. handler_in (map view handlers.now) done.now (length done.now) (table_view table.now) ≡ Ok handler) }
     ensures fits { IfOk result (λ handler. IsTrue (handler_fits (length handlers.now) handler)) }
@@ -113,7 +113,7 @@ fn handler_in(
     let kind = word_at(table, key(at, Key::Type))?;
     let answer = answer_at(table, key(at, Key::Answer))?;
     let ops = operations_at(alloc, table, at, handlers)?;
-    refuse_others(alloc, table, Place::Handler(at), &KEYS)?;
+    refuse_others(alloc, table, TablePlace::Handler(at), &KEYS)?;
     Ok(HandlerDef {
         name,
         kind,
@@ -128,19 +128,19 @@ fn handler_after(
     value: &Value,
     done: &[HandlerDef],
     handlers: &[Value],
-) -> Result<HandlerDef, Fault>
+) -> Result<HandlerDef, WalkFault>
     requires { length handlers.now ≤ 64 }
     ensures handler { IfOk result (λ handler. handler_after (map view handlers.now) done.now (view value.now) ≡ Ok handler) }
     ensures fits { IfOk result (λ handler. IsTrue (handler_fits (length handlers.now) handler)) }
     ensures fresh { IfOk result (λ handler. IsFalse (has_handler done.now handler.name)) }
     ensures refused { IfErr result (StopsAt (handler_after (map view handlers.now) done.now (view value.now))) }
 {
-    let table = entry_of(value, Place::Handler(done.len()))?;
+    let table = entry_of(value, TablePlace::Handler(done.len()))?;
     handler_in(alloc, table, done, handlers)
 }
 
 // The handlers of the entries.
-fn handlers_of(alloc: Global, handlers: &[Value]) -> Result<Vec<HandlerDef>, Fault>
+fn handlers_of(alloc: Global, handlers: &[Value]) -> Result<Vec<HandlerDef>, WalkFault>
     requires { length handlers.now ≤ 64 }
     ensures handlers { IfOk result (λ defs. handlers_in (map view handlers.now) ≡ Ok defs.items) }
     ensures fit { IfOk result (λ defs. IsTrue (handlers_fit defs.items)) }
@@ -155,7 +155,7 @@ fn handlers_of(alloc: Global, handlers: &[Value]) -> Result<Vec<HandlerDef>, Fau
 }
 
 /// The handlers of a file.
-pub fn handlers_at(alloc: Global, table: &Table) -> Result<Items<HandlerDef>, Fault>
+pub fn handlers_at(alloc: Global, table: &Table) -> Result<Items<HandlerDef>, WalkFault>
     ensures handlers { IfOk result (λ handlers. handlers_at (table_view table.now) ≡ Ok handlers) }
     ensures fit { IfOk result (λ handlers. IsTrue (handlers_fit handlers)) }
     ensures refused { IfErr result (StopsAt (handlers_at (table_view table.now))) }

@@ -3,7 +3,7 @@ ghost use Rattle.platform_file.specs.Path.{key_text};
 
 /// A table of a platform file. Entries of a list of tables are counted from 0.
 #[derive(Clone, Copy, Debug, PartialEq, Eq)]
-pub enum Place {
+pub enum TablePlace {
     Top,
     Smram,
     Wave(usize),
@@ -114,6 +114,6 @@ impl Key {
 /// A key of a table.
 #[derive(Clone, Copy, Debug, PartialEq, Eq)]
 pub struct Path {
-    pub place: Place,
+    pub place: TablePlace,
     pub key: Key,
 }

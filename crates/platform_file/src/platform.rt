@@ -4,14 +4,14 @@ ghost use Rattle.toml.specs.Errors.{IsMemory};
 ghost use Rattle.cpu_table.specs.Data.{data_of};
 ghost use Rattle.cpu_table.specs.Ranges.{events_at_most};
 ghost use Rattle.platform_file.specs.Reading.{StopsAt};
-ghost use Rattle.platform_file.specs.Walk.{tables_at, setup_at, document_of, platform_of};
+ghost use Rattle.platform_file.specs.Walk.{tables_at, setup_at, document_of, setup_read};
 ghost use Rattle.platform_file.specs.Head.{HeadFits};
 ghost use Rattle.platform_file.specs.declared.error.PlatformError.TheVariants.{NoMemory, NotToml};
 
-use crate::area::area_at;
+use crate::area::{area_at, judge_layout};
 use crate::causes::causes_at;
 use crate::error::{PlatformError, error_of};
-use crate::fault::Fault;
+use crate::fault::WalkFault;
 use crate::handlers::handlers_at;
 use crate::head::{Head, head_at};
 use crate::procedures::procedures_at;
@@ -34,8 +34,8 @@ fn events_at_most(head: &Head) -> u64
     u64::from(head.visits) * visit * (processors + 1)
 }
 
-// The tables behind the top one, and then the limit on events.
-fn tables_at(alloc: Global, table: &Table, head: Head) -> Result<Setup, Fault>
+// The tables after the top one, then the limit on events, and last the layout.
+fn tables_at(alloc: Global, table: &Table, head: Head) -> Result<Setup, WalkFault>
     requires { HeadFits head }
     ensures setup { IfOk result (λ setup. tables_at (table_view table.now) head ≡ Ok (data_of setup)) }
     ensures refused { IfErr result (StopsAt (tables_at (table_view table.now) head)) }
@@ -47,8 +47,9 @@ fn tables_at(alloc: Global, table: &Table, head: Head) -> Result<Setup, Fault>
     let causes = causes_at(alloc, table, head.processors, head.visits)?;
     let events = events_at_most(&head);
     if events > MOST_EVENTS {
-        return Err(Fault::TooLarge(events));
+        return Err(WalkFault::TooLarge(events));
     }
+    judge_layout(smram, head.processors)?;
     Ok(Setup {
         processors: head.processors,
         kind: head.kind,
@@ -68,7 +69,7 @@ fn tables_at(alloc: Global, table: &Table, head: Head) -> Result<Setup, Fault>
 }
 
 // The setup that a document stands for: the top table is finished first.
-fn setup_at(alloc: Global, table: &Table) -> Result<Setup, Fault>
+fn setup_at(alloc: Global, table: &Table) -> Result<Setup, WalkFault>
     ensures setup { IfOk result (λ setup. setup_at (table_view table.now) ≡ Ok (data_of setup)) }
     ensures refused { IfErr result (StopsAt (setup_at (table_view table.now))) }
 {
@@ -102,17 +103,17 @@ fn document_of(alloc: Global, bytes: &[u8]) -> Result<Table, PlatformError>
 ///
 /// The top table is judged first: its keys in their order, the kinds and lengths of its lists, and
 /// its other keys; then come the table `smram`, the waves, the handlers with their operations, the
-/// procedures and the causes, each list's entries by rising place, and last the limit on events.
+/// procedures and the causes, each list's entries by rising place, then the limit on events, and last the layout of SMRAM.
 /// The first fault is the answer.
 ///
 /// # Errors
 ///
 /// `NotToml` where the bytes are no TOML document, each other error for the first fault of that
 /// walk, with the path of its key; `NoMemory` for want of memory.
-#[tactic(auto, unfolding(crate::specs::Walk::platform_of))]
+#[tactic(auto, unfolding(crate::specs::Walk::setup_read))]
 pub fn read_platform(alloc: Global, bytes: &[u8]) -> Result<Setup, PlatformError>
-    ensures setup { IfOk result (λ setup. platform_of bytes.now ≡ Ok (data_of setup)) }
-    ensures refused { IfErr result (λ error. (error ≡ NoMemory) ⊎ (platform_of bytes.now ≡ Err error)) }
+    ensures setup { IfOk result (λ setup. setup_read bytes.now ≡ Ok (data_of setup)) }
+    ensures refused { IfErr result (λ error. (error ≡ NoMemory) ⊎ (setup_read bytes.now ≡ Err error)) }
 {
     let table = document_of(alloc, bytes)?;
     match setup_at(alloc, &table) {
