@@ -22,11 +22,11 @@ pub enum LayoutError {
     CodeTooLong(u64),
     /// SMRAM starts below 40000H, where the default area ends; its start.
     Low(u64),
-    /// The areas end behind the end of SMRAM; where they end.
+    /// The areas end after the end of SMRAM; where they end.
     PastEnd(u64),
 }
 
-/// The cause, and behind it the number: `bad-tile T`, `code-too-long C`, `low B` or `past-end E`.
+/// The cause, and after it the number: `bad-tile T`, `code-too-long C`, `low B` or `past-end E`.
 impl fmt::Display for LayoutError {
     ghost use Rattle.std.specs.Prelude.{Some};
     ghost use Rattle.cpu_table.specs.Texts.{layout_error_text};

@@ -18,7 +18,7 @@ pub enum TableError {
     NoMemory,
 }
 
-/// The cause, and behind it the number: `too-many COUNT`, `repeated ID` or `no memory`.
+/// The cause, and after it the number: `too-many COUNT`, `repeated ID` or `no memory`.
 impl fmt::Display for TableError {
     ghost use Rattle.std.specs.Prelude.{Some};
     ghost use Rattle.cpu_table.specs.Texts.{table_error_text};

@@ -8,23 +8,9 @@ use Rattle.platform_file.specs.declared.path.Key.{Key}
 use Rattle.platform_file.specs.declared.fault.WalkFault.{WalkFault}
 use Rattle.platform_file.specs.Reading.{Reading, read_then, StopsAt, each, unknown_in, unless_unknown, and_no_other, IsOther}
 
--- a first step that stops, stops the whole
-pub stops_first : {A B : Type 0} (r : Reading A) (next : A → Reading B) (fault : WalkFault) → StopsAt r fault → StopsAt (read_then r next) fault
-stops_first r next fault stops = elim stops [ inl is ↦ inl is | inr is ↦ inr (ap (λ x. read_then x next) is) ]
-
 -- where the first step reads, the second one decides
 pub then_found : {A B : Type 0} (r : Reading A) (next : A → Reading B) (a : A) → r ≡ Ok a → read_then r next ≡ next a
 then_found r next a is = ap (λ x. read_then x next) is
-
-pub stops_then : {A B : Type 0} (r : Reading A) (next : A → Reading B) (a : A) (fault : WalkFault) → r ≡ Ok a → StopsAt (next a) fault → StopsAt (read_then r next) fault
-stops_then r next a fault is stops = elim stops [ inl e ↦ inl e | inr e ↦ inr (then_found r next a is ∙ e) ]
-
--- a table with no other key is what was read
-pub no_other : {A : Type 0} (place : TablePlace) (keys : List Key) (table : Members) (found : A) → unknown_in keys table ≡ None → and_no_other place keys table found ≡ Ok found
-no_other place keys table found none = ap (unless_unknown place found) none
-
-pub other_stops : {A : Type 0} (place : TablePlace) (keys : List Key) (table : Members) (found : A) (fault : WalkFault) → IsOther place (unknown_in keys table) fault → StopsAt (and_no_other place keys table found) fault
-other_stops place keys table found fault other = elim other [ inl is ↦ inl is | inr x ↦ inr (ap (unless_unknown place found) x.1 ∙ ap Err (sym x.2)) ]
 
 -- the rest of a list from one place on, where this value stands
 next_value : {V : Type 0} (vs : List V) (i : ℕ) (v : V) → i < length vs → v ≡ get_or vs i v → drop i vs ≡ v ∷ drop (i + 1) vs

@@ -65,6 +65,10 @@ numbers_more n =
 pub length_more : {A : Type 0} (xs : List A) (x : A) (n : ℕ) → length xs ≡ n → length (xs ++ x ∷ []) ≡ n + 1
 length_more xs x n is = omega (arith, length-append xs (x ∷ []), is)
 
+pub none_distinct : IsDistinct eqb []
+unfolding IsDistinct
+none_distinct = tt
+
 -- one more number keeps numbers distinct where none before it is the same
 either_way : (xs : List ℕ) (y : ℕ) → list_any (eqb y) xs ≡ list_any (λ x. x == y) xs
 either_way [] y = refl
@@ -91,8 +95,8 @@ numbers_distinct xs n is = subst (λ (ys : List ℕ). IsDistinct eqb ys) (sym is
 pub numbers_small : (xs : List ℕ) (n limit : ℕ) → n ≤ limit → xs ≡ range_with_len 0 n → All (λ x. x < limit) xs
 numbers_small xs n limit few is =
     subst (λ (ys : List ℕ). All (λ x. x < limit) ys) (sym is) (All-from_get_or (λ x. x < limit) (range_with_len 0 n) 0 (λ i within. small_at i within)) where
-  small_at : (i : ℕ) → i < length (range_with_len 0 n) → get_or (range_with_len 0 n) i 0 < limit
-  small_at i within =
-      let count = length-range_with_len 0 n in
-      let value : get_or (range_with_len 0 n) i 0 ≡ 0 + i = get_or-range_with_len 0 n i 0 (omega (arith, within, count)) in
-      omega (arith, value, within, count, few)
+      small_at : (i : ℕ) → i < length (range_with_len 0 n) → get_or (range_with_len 0 n) i 0 < limit
+      small_at i within =
+          let count = length-range_with_len 0 n in
+          let value : get_or (range_with_len 0 n) i 0 ≡ 0 + i = get_or-range_with_len 0 n i 0 (omega (arith, within, count)) in
+          omega (arith, value, within, count, few)

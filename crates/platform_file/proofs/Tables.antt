@@ -16,8 +16,8 @@ apart x id (y ∷ ys) zero alone there = subst (λ (z : ℕ). (x == z) ≡ false
 apart x id (y ∷ ys) (suc p) alone there = apart x id ys p alone.1 there
 
 first_apart : (same others : Bool) → same ≡ false → same || others ≡ true → others ≡ true
-first_apart true others no some = absurd (false≢true (sym no))
-first_apart false others no some = some
+first_apart true others apart some = absurd (false≢true (sym apart))
+first_apart false others apart some = some
 
 -- so none stands before its place
 no_repeat : (ids : List ℕ) (id place : ℕ) → IsDistinct eqb ids → slice_get ids place ≡ Some id → list_any (λ x. x == id) (take place ids) ≡ true → ⊥

@@ -12,11 +12,11 @@ use Rattle.platform_file.specs.Reading.{Reading, read_then, path_to, number_at, 
 use Rattle.platform_file.specs.Head.{greatest, smram_at}
 
 -- the size, where the area ends by 4 GiB
-abbrev pub size_behind : ℕ → ℕ → Reading ℕ
-size_behind base size = if nat_le (base + size) 4294967296 then Ok size else Err (Range (path_to Smram key.Size) (pos size))
+abbrev pub size_after : ℕ → ℕ → Reading ℕ
+size_after base size = if nat_le (base + size) 4294967296 then Ok size else Err (Range (path_to Smram key.Size) (pos size))
 
 abbrev pub size_at : ℕ → Members → Reading ℕ
-size_at base table = read_then (number_at (path_to Smram key.Size) 1 8388608 table) (size_behind base)
+size_at base table = read_then (number_at (path_to Smram key.Size) 1 8388608 table) (size_after base)
 
 abbrev pub area_keys : List Key
 area_keys = key.Base ∷ key.Size ∷ key.Tile ∷ key.Code ∷ []

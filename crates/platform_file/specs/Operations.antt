@@ -171,7 +171,7 @@ operation_as handlers place table word =
 abbrev pub operation_in : List Data → TablePlace → Members → Reading OpDef
 operation_in handlers place table = read_then (word_at (path_to place key.Op) operation_word table) (operation_as handlers place table)
 
--- the operation of a handler behind the others
+-- the operation of a handler after the others
 abbrev pub operation_after : List Data → ℕ → List OpDef → Data → Reading OpDef
 operation_after handlers handler done value =
     read_then (entry_of (place.Operation handler (length done)) value) (operation_in handlers (place.Operation handler (length done)))

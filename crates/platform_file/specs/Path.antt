@@ -64,13 +64,13 @@ place_text (place.Procedure i) = entry_text (codes "procedure") i
 place_text (place.Cause i) = entry_text (codes "cause") i
 place_text (place.Io i) = entry_text (codes "cause") i ++ codes ".io"
 
--- a name in a table: behind the table's and a dot
-abbrev pub name_behind : List ℕ → List ℕ → List ℕ
-name_behind [] name = name
-name_behind (c ∷ cs) name = (c ∷ cs) ++ codes "." ++ name
+-- a name in a table: after the table's and a dot
+abbrev pub dotted : List ℕ → List ℕ → List ℕ
+dotted [] name = name
+dotted (c ∷ cs) name = (c ∷ cs) ++ codes "." ++ name
 
 abbrev pub name_under : TablePlace → List ℕ → List ℕ
-name_under at name = name_behind (place_text at) name
+name_under at name = dotted (place_text at) name
 
 -- the path of a key in a fault
 abbrev pub path_text : Path → List ℕ

@@ -107,8 +107,8 @@ each read done [] = Ok done
 each read done (value ∷ more) = read_then (read done value) (λ found. each read (done ++ found ∷ []) more)
 
 -- a word of a list of words, whatever stands before it
-abbrev pub word_behind : {A : Type 0} → Path → (List ℕ → Option A) → List A → Data → Reading A
-word_behind path find done value = word_of path find value
+abbrev pub word_after : {A : Type 0} → Path → (List ℕ → Option A) → List A → Data → Reading A
+word_after path find done value = word_of path find value
 
 -- is the name one of the keys?
 abbrev pub is_known : List Key → List ℕ → Bool

@@ -4,6 +4,7 @@ use Rattle.std.specs.Str.{is_utf8}
 use Rattle.toml.specs.Data.{Members}
 use Rattle.toml.specs.Parse.{parse_document}
 use Rattle.cpu_table.specs.Ranges.{events_at_most}
+use Rattle.cpu_table.specs.declared.setup.Smram.{Smram}
 use Rattle.cpu_table.specs.Data.{SetupData}
 use Rattle.platform_file.specs.declared.fault.WalkFault.{WalkFault}
 use Rattle.platform_file.specs.declared.fault.WalkFault.TheVariants as fault
@@ -19,16 +20,16 @@ use Rattle.platform_file.specs.Handlers.{handlers_at, procedures_at}
 use Rattle.platform_file.specs.Causes.{causes_at}
 
 -- the most events that a schedule makes on the platform
-abbrev pub most_events : SetupData → ℕ
-most_events d = events_at_most d.processors d.t1 d.t2 d.visits d.ops
+abbrev pub most_events : Head → ℕ
+most_events head = events_at_most head.processors head.polls.t1 head.polls.t2 head.visits head.ops
 
--- after all tables: the platform makes at most 4,194,304 events
-abbrev pub within_limit : SetupData → Reading SetupData
-within_limit d = if nat_le (most_events d) 4194304 then Ok d else Err (fault.TooLarge (most_events d))
+-- at most 4,194,304 events
+abbrev pub within_limit : ℕ → Reading (Unit {0})
+within_limit events = if nat_le events 4194304 then Ok tt else Err (fault.TooLarge events)
 
--- last the layout of the processors' areas, where the file has SMRAM
-abbrev pub with_room : SetupData → Reading SetupData
-with_room d = read_then (layout_judged d.processors d.smram) (λ _. Ok d)
+-- after all tables the limit on events, and last the layout of the processors' areas, where the file has SMRAM
+abbrev pub limits_judged : Head → Option Smram → Reading (Unit {0})
+limits_judged head smram = read_then (within_limit (most_events head)) (λ _. layout_judged head.processors smram)
 
 -- the tables after the top one: the areas, the waves, the handlers, the procedures, the causes
 abbrev pub tables_at : Members → Head → Reading SetupData
@@ -38,7 +39,7 @@ tables_at table head =
     read_then (handlers_at table) (λ handlers.
     read_then (procedures_at table) (λ procedures.
     read_then (causes_at head.processors head.visits table) (λ causes.
-    read_then (within_limit (record {
+    read_then (limits_judged head smram) (λ _. Ok (record {
       processors = head.processors;
       kind = head.kind;
       policy = head.policy;
@@ -53,7 +54,7 @@ tables_at table head =
       handlers = handlers;
       procedures = procedures;
       causes = causes;
-    })) with_room)))))
+    })))))))
 
 -- the whole walk: the top table is finished first
 abbrev pub setup_at : Members → Reading SetupData
@@ -68,7 +69,7 @@ error_of (fault.Word path) = error.Word (path_text path)
 error_of (fault.Range path number) = error.Range (path_text path) number
 error_of (fault.Unknown place name) = error.Unknown (name_under place name)
 error_of (fault.TooLarge events) = error.TooLarge events
-error_of (fault.Layout error) = error.Layout error
+error_of (fault.Layout refusal) = error.Layout refusal
 error_of fault.NoMemory = error.NoMemory
 
 abbrev pub told : {A : Type 0} → Reading A → Result A PlatformError

@@ -9,22 +9,12 @@ ghost use Rattle.platform_file.specs.Area.{size_at, area_in, area_at, layout_jud
 use crate::document::{number_at, refuse_others};
 use crate::fault::WalkFault;
 use crate::head::{GREATEST, smram_at};
-use crate::path::{Key, Path, TablePlace};
+use crate::path::{Key, TablePlace, path_to};
 use cpu_table::{Smram, layout_fault};
 use std::alloc::Global;
 use toml::Table;
 
 const KEYS: [Key; 4] = [Key::Base, Key::Size, Key::Tile, Key::Code];
-
-// A key of the table.
-fn area(key: Key) -> Path
-    ensures { result ≡ path_to place.Smram key }
-{
-    Path {
-        place: TablePlace::Smram,
-        key,
-    }
-}
 
 // The size of the area, which ends by 4 GiB.
 fn size_at(table: &Table, base: u64) -> Result<u64, WalkFault>
@@ -32,11 +22,11 @@ fn size_at(table: &Table, base: u64) -> Result<u64, WalkFault>
     ensures size { result ≡ size_at base (table_view table.now) }
     ensures within { IfOk result (λ size. (1 ≤ size) × (size ≤ 8388608) × (base + size ≤ 4294967296)) }
 {
-    let size = number_at(table, area(Key::Size), 1, 8388608)?;
+    let size = number_at(table, path_to(TablePlace::Smram, Key::Size), 1, 8388608)?;
     if base + size <= 4294967296 {
         Ok(size)
     } else {
-        Err(WalkFault::Range(area(Key::Size), size as i64))
+        Err(WalkFault::Range(path_to(TablePlace::Smram, Key::Size), size as i64))
     }
 }
 
@@ -46,10 +36,10 @@ fn area_in(alloc: Global, table: &Table) -> Result<Smram, WalkFault>
     ensures fits { IfOk result (λ area. IsTrue (area_fits area)) }
     ensures refused { IfErr result (StopsAt (area_in (table_view table.now))) }
 {
-    let base = number_at(table, area(Key::Base), 0, GREATEST)?;
+    let base = number_at(table, path_to(TablePlace::Smram, Key::Base), 0, GREATEST)?;
     let size = size_at(table, base)?;
-    let tile = number_at(table, area(Key::Tile), 0, GREATEST)?;
-    let code = number_at(table, area(Key::Code), 0, GREATEST)?;
+    let tile = number_at(table, path_to(TablePlace::Smram, Key::Tile), 0, GREATEST)?;
+    let code = number_at(table, path_to(TablePlace::Smram, Key::Code), 0, GREATEST)?;
     refuse_others(alloc, table, TablePlace::Smram, &KEYS)?;
     Ok(Smram {
         base,

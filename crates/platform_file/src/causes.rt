@@ -11,7 +11,7 @@ ghost use Rattle.platform_file.specs.declared.path.Key.TheVariants as key;
 use crate::document::{entry_of, flag_of, member, number_at, refuse_others, table_of};
 use crate::fault::WalkFault;
 use crate::head::cause_entries;
-use crate::path::{Key, Path, TablePlace};
+use crate::path::{Key, Path, TablePlace, path_to};
 use cpu_table::{CauseAt, Items};
 use smm_base::{Cause, IoCause};
 use std::alloc::Global;
@@ -20,16 +20,6 @@ use toml::{Table, Value};
 const KEYS: [Key; 4] = [Key::Cpu, Key::Visit, Key::Halt, Key::Io];
 
 const IO_KEYS: [Key; 3] = [Key::Port, Key::Length, Key::Type];
-
-// A key of the cause at this place.
-fn key(at: usize, key: Key) -> Path
-    ensures { result ≡ path_to (place.Cause at) key }
-{
-    Path {
-        place: TablePlace::Cause(at),
-        key,
-    }
-}
 
 // The size of an I/O instruction's operand in bytes.
 fn length_at(table: &Table, path: Path) -> Result<u8, WalkFault>
@@ -69,29 +59,9 @@ fn instruction_in(alloc: Global, table: &Table, place: TablePlace) -> Result<IoC
     ensures io { IfOk result (λ io. instruction_in place (table_view table.now) ≡ Ok (Some io)) }
     ensures refused { IfErr result (StopsAt (instruction_in place (table_view table.now))) }
 {
-    let port = number_at(
-        table,
-        Path {
-            place,
-            key: Key::Port,
-        },
-        0,
-        65535,
-    )?;
-    let length = length_at(
-        table,
-        Path {
-            place,
-            key: Key::Length,
-        },
-    )?;
-    let kind = type_at(
-        table,
-        Path {
-            place,
-            key: Key::Type,
-        },
-    )?;
+    let port = number_at(table, path_to(place, Key::Port), 0, 65535)?;
+    let length = length_at(table, path_to(place, Key::Length))?;
+    let kind = type_at(table, path_to(place, Key::Type))?;
     refuse_others(alloc, table, place, &IO_KEYS)?;
     Ok(instruction(port as u16, length, kind))
 }
@@ -101,9 +71,9 @@ fn io_at(alloc: Global, table: &Table, at: usize) -> Result<Option<IoCause>, Wal
     ensures io { IfOk result (λ io. io_at at (table_view table.now) ≡ Ok io) }
     ensures refused { IfErr result (StopsAt (io_at at (table_view table.now))) }
 {
-    match member(table, key(at, Key::Io)) {
+    match member(table, path_to(TablePlace::Cause(at), Key::Io)) {
         Some(value) => {
-            let table = table_of(value, key(at, Key::Io))?;
+            let table = table_of(value, path_to(TablePlace::Cause(at), Key::Io))?;
             Ok(Some(instruction_in(alloc, table, TablePlace::Io(at))?))
         }
         None => Ok(None),
@@ -114,8 +84,8 @@ fn io_at(alloc: Global, table: &Table, at: usize) -> Result<Option<IoCause>, Wal
 fn halt_at(table: &Table, at: usize) -> Result<bool, WalkFault>
     ensures { result ≡ halt_at at (table_view table.now) }
 {
-    match member(table, key(at, Key::Halt)) {
-        Some(value) => flag_of(value, key(at, Key::Halt)),
+    match member(table, path_to(TablePlace::Cause(at), Key::Halt)) {
+        Some(value) => flag_of(value, path_to(TablePlace::Cause(at), Key::Halt)),
         None => Ok(false),
     }
 }
@@ -129,14 +99,25 @@ fn is_taken(done: &[CauseAt], cpu: u16, visit: u32) -> bool
 }
 
 // The visit of the next cause.
-fn visit_at(table: &Table, done: &[CauseAt], at: usize, visits: u32, cpu: u16) -> Result<u32, WalkFault>
+fn visit_at(
+    table: &Table,
+    done: &[CauseAt],
+    at: usize,
+    visits: u32,
+    cpu: u16,
+) -> Result<u32, WalkFault>
     ensures visit { result ≡ visit_at done.now visits (path_to (place.Cause at) key.Visit) cpu (table_view table.now) }
     ensures within { IfOk result (λ visit. (1 ≤ visit) × (visit ≤ visits)) }
     ensures fresh { IfOk result (λ visit. IsFalse (list_any (is_of cpu visit) done.now)) }
 {
-    let visit = number_at(table, key(at, Key::Visit), 1, u64::from(visits))? as u32;
+    let visit = number_at(
+        table,
+        path_to(TablePlace::Cause(at), Key::Visit),
+        1,
+        u64::from(visits),
+    )? as u32;
     if is_taken(done, cpu, visit) {
-        Err(WalkFault::Range(key(at, Key::Visit), i64::from(visit)))
+        Err(WalkFault::Range(path_to(TablePlace::Cause(at), Key::Visit), i64::from(visit)))
     } else {
         Ok(visit)
     }
@@ -157,7 +138,12 @@ fn cause_in(
     ensures refused { IfErr result (StopsAt (cause_in processors visits done.now (length done.now) (table_view table.now))) }
 {
     let at = done.len();
-    let cpu = number_at(table, key(at, Key::Cpu), 0, u64::from(processors - 1))? as u16;
+    let cpu = number_at(
+        table,
+        path_to(TablePlace::Cause(at), Key::Cpu),
+        0,
+        u64::from(processors - 1),
+    )? as u16;
     let visit = visit_at(table, done, at, visits, cpu)?;
     let halt = halt_at(table, at)?;
     let io = io_at(alloc, table, at)?;

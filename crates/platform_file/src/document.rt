@@ -5,7 +5,7 @@ ghost use Rattle.std.specs.Option.{option_map};
 ghost use Rattle.std.specs.Result.{result_map_both};
 ghost use Rattle.toml.specs.Data.{get_member};
 ghost use Rattle.toml.specs.View.{view, table_view};
-ghost use Rattle.platform_file.specs.Reading.{StopsAt, found_at, required, integer_of, text_of, flag_of, table_of, entry_of, list_of, counted, number_within, number_value, number_at, text_at, word_of, word_at, each, word_behind, list_at, entries_of, entries_at, is_known, unknown_in, IsOther};
+ghost use Rattle.platform_file.specs.Reading.{StopsAt, found_at, required, integer_of, text_of, flag_of, table_of, entry_of, list_of, counted, number_within, number_value, number_at, text_at, word_of, word_at, each, word_after, list_at, entries_of, entries_at, is_known, unknown_in, IsOther};
 
 use crate::fault::WalkFault;
 use crate::path::{Key, Path, TablePlace};
@@ -91,9 +91,9 @@ pub fn words_of<W: Word + Drop>(
     values: &[Value],
     path: Path,
 ) -> Result<Vec<W>, WalkFault>
-    ensures words { IfOk result (λ words. each (word_behind path W.meaning) [] (map view values.now) ≡ Ok words.items) }
+    ensures words { IfOk result (λ words. each (word_after path W.meaning) [] (map view values.now) ≡ Ok words.items) }
     ensures count { IfOk result (λ words. length words.items ≡ length values.now) }
-    ensures refused { IfErr result (StopsAt (each (word_behind path W.meaning) [] (map view values.now))) }
+    ensures refused { IfErr result (StopsAt (each (word_after path W.meaning) [] (map view values.now))) }
 {
     let mut words = Vec::with_capacity(alloc, values.len())?;
     for value in values {
@@ -229,7 +229,12 @@ fn unknown_in<'a>(table: &'a Table, known: &[Key]) -> Option<&'a String>
 }
 
 /// Refuses a table that has another key.
-pub fn refuse_others(alloc: Global, table: &Table, place: TablePlace, keys: &[Key]) -> Result<(), WalkFault>
+pub fn refuse_others(
+    alloc: Global,
+    table: &Table,
+    place: TablePlace,
+    keys: &[Key],
+) -> Result<(), WalkFault>
     ensures none { OnOk result (unknown_in keys.now (table_view table.now) ≡ None) }
     ensures refused { IfErr result (IsOther place (unknown_in keys.now (table_view table.now))) }
 {

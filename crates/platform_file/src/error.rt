@@ -67,7 +67,7 @@ impl From<NoMemory> for PlatformError {
     }
 }
 
-// A table by its key, and an entry by its place in brackets behind.
+// A table by its key, and an entry by its place in brackets after.
 fn place_text(alloc: Global, place: TablePlace) -> Result<String, NoMemory>
     ensures { IfOk result (λ text. string_bytes text ≡ place_text place) }
 {

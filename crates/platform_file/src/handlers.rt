@@ -12,23 +12,13 @@ use crate::document::{entry_of, list_at, refuse_others, text_at, word_at};
 use crate::fault::WalkFault;
 use crate::head::handler_entries;
 use crate::operations::operations_of;
-use crate::path::{Key, Path, TablePlace};
+use crate::path::{Key, Path, TablePlace, path_to};
 use cpu_table::{HandlerDef, Items, OpDef, Text};
 use smm_base::Status;
 use std::alloc::Global;
 use toml::{Table, Value};
 
 const KEYS: [Key; 4] = [Key::Name, Key::Type, Key::Answer, Key::Ops];
-
-// A key of the handler at this place.
-fn key(at: usize, key: Key) -> Path
-    ensures { result ≡ path_to (place.Handler at) key }
-{
-    Path {
-        place: TablePlace::Handler(at),
-        key,
-    }
-}
 
 /// Is the text a name of 1 to 32 bytes?
 pub fn is_name(name: &Text) -> bool
@@ -90,7 +80,7 @@ fn operations_at(
     ensures fit { IfOk result (λ operations. IsTrue (list_all (op_fits (length handlers.now)) operations)) }
     ensures refused { IfErr result (StopsAt (operations_at (map view handlers.now) at (table_view table.now))) }
 {
-    let values = list_at(table, key(at, Key::Ops), 0, 64)?;
+    let values = list_at(table, path_to(TablePlace::Handler(at), Key::Ops), 0, 64)?;
     let operations = operations_of(alloc, values, at, handlers)?;
     Ok(Items::new(operations))
 }
@@ -109,9 +99,14 @@ fn handler_in(
     ensures refused { IfErr result (StopsAt (handler_in (map view handlers.now) done.now (length done.now) (table_view table.now))) }
 {
     let at = done.len();
-    let name = name_at(alloc, table, done, key(at, Key::Name))?;
-    let kind = word_at(table, key(at, Key::Type))?;
-    let answer = answer_at(table, key(at, Key::Answer))?;
+    let name = name_at(
+        alloc,
+        table,
+        done,
+        path_to(TablePlace::Handler(at), Key::Name),
+    )?;
+    let kind = word_at(table, path_to(TablePlace::Handler(at), Key::Type))?;
+    let answer = answer_at(table, path_to(TablePlace::Handler(at), Key::Answer))?;
     let ops = operations_at(alloc, table, at, handlers)?;
     refuse_others(alloc, table, TablePlace::Handler(at), &KEYS)?;
     Ok(HandlerDef {

@@ -9,24 +9,17 @@ ghost use Rattle.platform_file.specs.Operations.{cpu_at, register_at, width_at, 
 use crate::document::{entry_of, member, number_at, refuse_others, text_at, word_at};
 use crate::fault::WalkFault;
 use crate::operand::{Variable, operand_at};
-use crate::path::{Key, Path, TablePlace};
+use crate::path::{Key, TablePlace, path_to};
 use crate::word::OperationWord;
 use cpu_table::{OpDef, Text};
 use smm_base::{HandlerType, Register, register_laws};
 use std::alloc::Global;
 use toml::{Table, Value};
 
-// A key of an operation.
-fn key(place: TablePlace, key: Key) -> Path
-    ensures { result ≡ path_to place key }
-{
-    Path { place, key }
-}
-
 fn cpu_at(table: &Table, place: TablePlace) -> Result<u16, WalkFault>
     ensures { result ≡ cpu_at place (table_view table.now) }
 {
-    let number = number_at(table, key(place, Key::Cpu), 0, 65535)?;
+    let number = number_at(table, path_to(place, Key::Cpu), 0, 65535)?;
     Ok(number as u16)
 }
 
@@ -35,7 +28,7 @@ pub fn register_at(table: &Table, place: TablePlace) -> Result<u32, WalkFault>
     ensures register { result ≡ register_at place (table_view table.now) }
     ensures fits { IfOk result (λ number. IsTrue (is_register_number number)) }
 {
-    let register: Register = word_at(table, key(place, Key::Reg))?;
+    let register: Register = word_at(table, path_to(place, Key::Reg))?;
     register_laws();
     Ok(register.number())
 }
@@ -44,7 +37,7 @@ fn width_at(table: &Table, place: TablePlace) -> Result<u8, WalkFault>
     ensures width { result ≡ width_at place (table_view table.now) }
     ensures fits { IfOk result (λ width. width ≤ 24) }
 {
-    let width = number_at(table, key(place, Key::Width), 0, 24)?;
+    let width = number_at(table, path_to(place, Key::Width), 0, 24)?;
     Ok(width as u8)
 }
 
@@ -52,14 +45,14 @@ fn into_at(table: &Table, place: TablePlace) -> Result<u8, WalkFault>
     ensures into { result ≡ into_at place (table_view table.now) }
     ensures fits { IfOk result (λ into. IsTrue (is_variable into)) }
 {
-    let variable: Variable = word_at(table, key(place, Key::Into))?;
+    let variable: Variable = word_at(table, path_to(place, Key::Into))?;
     Ok(variable.number)
 }
 
 fn kind_at(table: &Table, place: TablePlace) -> Result<HandlerType, WalkFault>
     ensures { result ≡ kind_at place (table_view table.now) }
 {
-    word_at(table, key(place, Key::Type))
+    word_at(table, path_to(place, Key::Type))
 }
 
 // Has the entry of the list of handlers this name?
@@ -94,7 +87,7 @@ fn handler_at(table: &Table, place: TablePlace, handlers: &[Value]) -> Result<u1
     ensures handler { result ≡ handler_at (map view handlers.now) place (table_view table.now) }
     ensures within { IfOk result (λ handler. handler < length handlers.now) }
 {
-    let path = key(place, Key::Handler);
+    let path = path_to(place, Key::Handler);
     match member(table, path) {
         Some(value) => match value.as_str() {
             Some(name) => match handler_named(handlers, name) {
@@ -112,7 +105,7 @@ fn set_in(table: &Table, place: TablePlace) -> Result<OpDef, WalkFault>
     ensures fits { IfOk result (λ operation. IsTrue (op_fits 0 operation)) }
 {
     let into = into_at(table, place)?;
-    let value = operand_at(table, key(place, Key::Value))?;
+    let value = operand_at(table, path_to(place, Key::Value))?;
     Ok(OpDef::Set { into, value })
 }
 
@@ -139,7 +132,7 @@ fn write_in(table: &Table, place: TablePlace) -> Result<OpDef, WalkFault>
     let cpu = cpu_at(table, place)?;
     let reg = register_at(table, place)?;
     let width = width_at(table, place)?;
-    let value = operand_at(table, key(place, Key::Value))?;
+    let value = operand_at(table, path_to(place, Key::Value))?;
     Ok(OpDef::Write {
         cpu,
         reg,
@@ -154,8 +147,8 @@ fn start_in(alloc: Global, table: &Table, place: TablePlace) -> Result<OpDef, Wa
     ensures refused { IfErr result (StopsAt (start_in place (table_view table.now))) }
 {
     let cpu = cpu_at(table, place)?;
-    let procedure = text_at(alloc, table, key(place, Key::Procedure))?;
-    let arg = operand_at(table, key(place, Key::Arg))?;
+    let procedure = text_at(alloc, table, path_to(place, Key::Procedure))?;
+    let arg = operand_at(table, path_to(place, Key::Arg))?;
     let into = into_at(table, place)?;
     Ok(OpDef::Start {
         cpu,
@@ -171,8 +164,8 @@ fn launch_in(alloc: Global, table: &Table, place: TablePlace) -> Result<OpDef, W
     ensures refused { IfErr result (StopsAt (launch_in place (table_view table.now))) }
 {
     let cpu = cpu_at(table, place)?;
-    let procedure = text_at(alloc, table, key(place, Key::Procedure))?;
-    let arg = operand_at(table, key(place, Key::Arg))?;
+    let procedure = text_at(alloc, table, path_to(place, Key::Procedure))?;
+    let arg = operand_at(table, path_to(place, Key::Arg))?;
     let into = into_at(table, place)?;
     Ok(OpDef::Launch {
         cpu,
@@ -186,7 +179,7 @@ fn check_in(table: &Table, place: TablePlace) -> Result<OpDef, WalkFault>
     ensures operation { result ≡ check_in place (table_view table.now) }
     ensures fits { IfOk result (λ operation. IsTrue (op_fits 0 operation)) }
 {
-    let token = operand_at(table, key(place, Key::Token))?;
+    let token = operand_at(table, path_to(place, Key::Token))?;
     Ok(OpDef::Check { token })
 }
 
@@ -194,7 +187,7 @@ fn wait_in(table: &Table, place: TablePlace) -> Result<OpDef, WalkFault>
     ensures operation { result ≡ wait_in place (table_view table.now) }
     ensures fits { IfOk result (λ operation. IsTrue (op_fits 0 operation)) }
 {
-    let token = operand_at(table, key(place, Key::Token))?;
+    let token = operand_at(table, path_to(place, Key::Token))?;
     let into = into_at(table, place)?;
     Ok(OpDef::Wait { token, into })
 }
@@ -203,7 +196,7 @@ fn alloc_in(table: &Table, place: TablePlace) -> Result<OpDef, WalkFault>
     ensures operation { result ≡ alloc_in place (table_view table.now) }
     ensures fits { IfOk result (λ operation. IsTrue (op_fits 0 operation)) }
 {
-    let size = operand_at(table, key(place, Key::Size))?;
+    let size = operand_at(table, path_to(place, Key::Size))?;
     let into = into_at(table, place)?;
     Ok(OpDef::Alloc { size, into })
 }
@@ -212,7 +205,7 @@ fn free_in(table: &Table, place: TablePlace) -> Result<OpDef, WalkFault>
     ensures operation { result ≡ free_in place (table_view table.now) }
     ensures fits { IfOk result (λ operation. IsTrue (op_fits 0 operation)) }
 {
-    let freed = operand_at(table, key(place, Key::Place))?;
+    let freed = operand_at(table, path_to(place, Key::Place))?;
     Ok(OpDef::Free { place: freed })
 }
 
@@ -235,7 +228,7 @@ fn unregister_in(table: &Table, place: TablePlace) -> Result<OpDef, WalkFault>
     ensures operation { result ≡ unregister_in place (table_view table.now) }
     ensures fits { IfOk result (λ operation. IsTrue (op_fits 0 operation)) }
 {
-    let handle = operand_at(table, key(place, Key::Handle))?;
+    let handle = operand_at(table, path_to(place, Key::Handle))?;
     Ok(OpDef::Unregister { handle })
 }
 
@@ -247,7 +240,7 @@ fn manage_in(table: &Table, place: TablePlace) -> Result<OpDef, WalkFault>
     Ok(OpDef::Manage { kind })
 }
 
-// The keys of an operation behind its `op`.
+// The keys of an operation after its `op`.
 fn operation_by(
     alloc: Global,
     table: &Table,
@@ -308,7 +301,7 @@ fn operation_in(
     ensures fits { IfOk result (λ operation. IsTrue (op_fits (length handlers.now) operation)) }
     ensures refused { IfErr result (StopsAt (operation_in (map view handlers.now) place (table_view table.now))) }
 {
-    let word = word_at(table, key(place, Key::Op))?;
+    let word = word_at(table, path_to(place, Key::Op))?;
     let operation = operation_by(alloc, table, place, handlers, word)?;
     refuse_others(alloc, table, place, operation_keys(word))?;
     Ok(operation)

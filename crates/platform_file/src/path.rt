@@ -1,5 +1,6 @@
 ghost use Rattle.std.specs.Prelude.{◌≡◌};
 ghost use Rattle.platform_file.specs.Path.{key_text};
+ghost use Rattle.platform_file.specs.Reading.{path_to};
 
 /// A table of a platform file. Entries of a list of tables are counted from 0.
 #[derive(Clone, Copy)]
@@ -116,4 +117,11 @@ impl Key {
 pub struct Path {
     pub place: TablePlace,
     pub key: Key,
+}
+
+/// A key of this table.
+pub fn path_to(place: TablePlace, key: Key) -> Path
+    ensures { result ≡ path_to place key }
+{
+    Path { place, key }
 }

@@ -1,10 +1,11 @@
-ghost use Rattle.std.specs.Prelude.{◌≡◌, ◌≤◌, ◌⊎◌, IfOk, IfErr, Ok, Err, Some, None};
+ghost use Rattle.std.specs.Prelude.{◌≡◌, ◌≤◌, ◌⊎◌, IfOk, IfErr, OnOk, IsTrue, Ok, Err, Some, None};
 ghost use Rattle.toml.specs.View.{table_view};
 ghost use Rattle.toml.specs.Errors.{IsMemory};
 ghost use Rattle.cpu_table.specs.Data.{data_of};
-ghost use Rattle.cpu_table.specs.Ranges.{events_at_most};
+ghost use Rattle.cpu_table.specs.Layout.{layout_fits};
+ghost use Rattle.cpu_table.specs.Ranges.{events_at_most, smram_fits};
 ghost use Rattle.platform_file.specs.Reading.{StopsAt};
-ghost use Rattle.platform_file.specs.Walk.{tables_at, setup_at, document_of, setup_read};
+ghost use Rattle.platform_file.specs.Walk.{most_events, limits_judged, tables_at, setup_at, document_of, setup_read};
 ghost use Rattle.platform_file.specs.Head.{HeadFits};
 ghost use Rattle.platform_file.specs.declared.error.PlatformError.TheVariants.{NoMemory, NotToml};
 
@@ -16,7 +17,7 @@ use crate::handlers::handlers_at;
 use crate::head::{Head, head_at};
 use crate::procedures::procedures_at;
 use crate::waves::waves_at;
-use cpu_table::Setup;
+use cpu_table::{Setup, Smram};
 use std::alloc::Global;
 use toml::Table;
 
@@ -26,12 +27,27 @@ const MOST_EVENTS: u64 = 4194304;
 // The most events that a schedule makes on the platform.
 fn events_at_most(head: &Head) -> u64
     requires { HeadFits head.now }
-    ensures { result ≡ events_at_most head.now.processors head.now.polls.t1 head.now.polls.t2 head.now.visits head.now.ops }
+    ensures { result ≡ most_events head.now }
 {
     let processors = u64::from(head.processors);
     let looks = u64::from(head.polls.t1) + u64::from(head.polls.t2);
     let visit = 40 + looks + 10 * processors + 5 * u64::from(head.ops);
     u64::from(head.visits) * visit * (processors + 1)
+}
+
+// The limit on events, and last the layout of the areas.
+fn judge_limits(head: &Head, smram: Option<Smram>) -> Result<(), WalkFault>
+    requires head { HeadFits head.now }
+    requires smram { IsTrue (smram_fits smram) }
+    ensures judged { result ≡ limits_judged head.now smram }
+    ensures few { OnOk result (most_events head.now ≤ 4194304) }
+    ensures room { OnOk result (IsTrue (layout_fits head.now.processors smram)) }
+{
+    let events = events_at_most(head);
+    if events > MOST_EVENTS {
+        return Err(WalkFault::TooLarge(events));
+    }
+    judge_layout(smram, head.processors)
 }
 
 // The tables after the top one, then the limit on events, and last the layout.
@@ -45,11 +61,7 @@ fn tables_at(alloc: Global, table: &Table, head: Head) -> Result<Setup, WalkFaul
     let handlers = handlers_at(alloc, table)?;
     let procedures = procedures_at(alloc, table)?;
     let causes = causes_at(alloc, table, head.processors, head.visits)?;
-    let events = events_at_most(&head);
-    if events > MOST_EVENTS {
-        return Err(WalkFault::TooLarge(events));
-    }
-    judge_layout(smram, head.processors)?;
+    judge_limits(&head, smram)?;
     Ok(Setup {
         processors: head.processors,
         kind: head.kind,

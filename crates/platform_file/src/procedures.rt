@@ -10,7 +10,7 @@ use crate::fault::WalkFault;
 use crate::handlers::name_after;
 use crate::head::procedure_entries;
 use crate::operations::register_at;
-use crate::path::{Key, Path, TablePlace};
+use crate::path::{Key, Path, TablePlace, path_to};
 use cpu_table::{Items, ProcedureDef, Text};
 use std::alloc::Global;
 use toml::{Table, Value};
@@ -26,7 +26,12 @@ fn is_taken(done: &[ProcedureDef], name: &Text) -> bool
 }
 
 // The name of the next procedure.
-fn name_at(alloc: Global, table: &Table, done: &[ProcedureDef], path: Path) -> Result<Text, WalkFault>
+fn name_at(
+    alloc: Global,
+    table: &Table,
+    done: &[ProcedureDef],
+    path: Path,
+) -> Result<Text, WalkFault>
     ensures name { IfOk result (λ name. name_at (has_procedure done.now) path (table_view table.now) ≡ Ok name) }
     ensures fits { IfOk result (λ name. IsTrue (is_name name)) }
     ensures fresh { IfOk result (λ name. IsFalse (has_procedure done.now name)) }
@@ -49,22 +54,8 @@ fn procedure_in(
     ensures fresh { IfOk result (λ procedure. IsFalse (has_procedure done.now procedure.name)) }
     ensures refused { IfErr result (StopsAt (procedure_in done.now place (table_view table.now))) }
 {
-    let name = name_at(
-        alloc,
-        table,
-        done,
-        Path {
-            place,
-            key: Key::Name,
-        },
-    )?;
-    let act = word_at(
-        table,
-        Path {
-            place,
-            key: Key::Act,
-        },
-    )?;
+    let name = name_at(alloc, table, done, path_to(place, Key::Name))?;
+    let act = word_at(table, path_to(place, Key::Act))?;
     let reg = register_at(table, place)?;
     refuse_others(alloc, table, place, &KEYS)?;
     Ok(ProcedureDef { name, act, reg })

@@ -47,7 +47,12 @@ fn walks_at(alloc: Global, table: &Table, path: Path) -> Result<Items<HandlerTyp
 }
 
 // The wave that a table tells.
-fn wave_in(alloc: Global, table: &Table, place: TablePlace, processors: u16) -> Result<Wave, WalkFault>
+fn wave_in(
+    alloc: Global,
+    table: &Table,
+    place: TablePlace,
+    processors: u16,
+) -> Result<Wave, WalkFault>
     ensures wave { IfOk result (λ wave. wave_in processors place (table_view table.now) ≡ Ok wave) }
     ensures fits { IfOk result (λ wave. IsTrue (wave_fits processors wave)) }
     ensures refused { IfErr result (StopsAt (wave_in processors place (table_view table.now))) }
@@ -67,7 +72,12 @@ fn wave_in(alloc: Global, table: &Table, place: TablePlace, processors: u16) -> 
 }
 
 // The next wave.
-fn wave_after(alloc: Global, value: &Value, done: &[Wave], processors: u16) -> Result<Wave, WalkFault>
+fn wave_after(
+    alloc: Global,
+    value: &Value,
+    done: &[Wave],
+    processors: u16,
+) -> Result<Wave, WalkFault>
     ensures wave { IfOk result (λ wave. wave_after processors done.now (view value.now) ≡ Ok wave) }
     ensures fits { IfOk result (λ wave. IsTrue (wave_fits processors wave)) }
     ensures refused { IfErr result (StopsAt (wave_after processors done.now (view value.now))) }

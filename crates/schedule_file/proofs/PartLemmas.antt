@@ -15,7 +15,7 @@ settled_by actors more true is = refl
 settled_by actors more false is =
     ap (λ few. if few then Ok (actors ++ more) else Err TooLong) (lt-leb (length (actors ++ more)) 4194304 (omega (arith, leb-false (length actors) 4194304 is, length-append actors more)))
 
--- too many actors stay too many with more behind them
+-- too many actors stay too many with more after them
 settled : (actors more : List ℕ) → not_too_long (actors ++ more) ≡ ending (kept actors) (Ok more)
 settled actors more = settled_by actors more (nat_le (length actors) 4194304) refl
 
@@ -41,7 +41,7 @@ ending-refused (Ok some) listed error later is = cc
 ending-refused (Err other) None error later is = let same : other ≡ error = cc in ap Err same
 ending-refused (Err other) (Some actors) error later is = let same : other ≡ error = cc in ap Err same
 
--- a part that was read leaves the parts behind it
+-- a part that was read leaves the parts after it
 pub schedule_after-part : (n at : ℕ) (part : List ℕ) (parts : List (List ℕ)) (listed now : Option (List ℕ)) → part_reading n at part listed ≡ Ok now →
     schedule_after n listed at (part ∷ parts) ≡ schedule_after n now (at + length part + 1) parts
 unfolding schedule_after
@@ -104,7 +104,7 @@ pub bytes-slice_split : (p : ℕ → Bool) (text : List ℕ) → bytes_of_parts 
 bytes-slice_split p [] = refl
 bytes-slice_split p (byte ∷ bytes) = bytes-cond byte (slice_split p bytes) (length bytes) (p byte) (omega (arith, length-slice_split p bytes)) (bytes-slice_split p bytes)
 
--- the next part stands in front of those behind it
+-- the next part stands in front of those after it
 part_at : (parts : List (List ℕ)) (place : ℕ) (part : List ℕ) → (place < length parts) × (part ≡ get_or parts place part) → drop place parts ≡ part ∷ drop (place + 1) parts
 part_at parts place part is = drop_more parts place part is.0 ∙ ap (λ front. front ∷ drop (place + 1) parts) (sym is.1)
 
@@ -113,8 +113,8 @@ pub read_part : (n at : ℕ) (text part : List ℕ) (parts : List (List ℕ)) (l
     (place < length parts) × (part ≡ get_or parts place part) → part_reading n at part listed ≡ Ok now → schedule_after n listed at (drop place parts) ≡ schedule_of n text →
     schedule_after n now (at + (length part + 1)) (drop next parts) ≡ schedule_of n text
 read_part n at text part parts listed now place next more is reading before =
-    let behind : at + (length part + 1) ≡ at + length part + 1 = omega arith in
-    ap (λ k. schedule_after n now (at + (length part + 1)) (drop k parts)) more ∙ ap (λ b. schedule_after n now b (drop (place + 1) parts)) behind
+    let end : at + (length part + 1) ≡ at + length part + 1 = omega arith in
+    ap (λ k. schedule_after n now (at + (length part + 1)) (drop k parts)) more ∙ ap (λ b. schedule_after n now b (drop (place + 1) parts)) end
     ∙ sym (schedule_after-part n at part (drop (place + 1) parts) listed now reading) ∙ ap (schedule_after n listed at) (sym (part_at parts place part is)) ∙ before
 
 -- the part that comes next was refused, or memory ran out
@@ -125,7 +125,7 @@ refused_part n at text part parts listed error place is before (inl no_memory) =
 refused_part n at text part parts listed error place is before (inr reading) =
     inr (sym before ∙ ap (schedule_after n listed at) (part_at parts place part is) ∙ schedule_after-refused n at part (drop (place + 1) parts) listed error reading)
 
--- the bytes of the part that comes next, and of those behind it
+-- the bytes of the part that comes next, and of those after it
 pub bytes_at : (parts : List (List ℕ)) (place next : ℕ) (part : List ℕ) → next ≡ place + 1 → (place < length parts) × (part ≡ get_or parts place part) →
     bytes_of_parts (drop place parts) ≡ length part + 1 + bytes_of_parts (drop next parts)
 bytes_at parts place next part more is = ap bytes_of_parts (part_at parts place part is) ∙ ap (λ k. length part + 1 + bytes_of_parts (drop k parts)) (sym more)

@@ -29,7 +29,7 @@ has_bytes (byte ∷ bytes) = true
 abbrev pub items_of : List ℕ → List (ℕ × List ℕ)
 items_of text = filter (λ item. has_bytes item.1) (placed 0 (slice_split is_blank text))
 
--- a first digit 0 with more behind it
+-- a first digit 0 with more after it
 abbrev pub has_leading_zero : List ℕ → Bool
 has_leading_zero [] = false
 has_leading_zero (first ∷ more) = (first == 48) && nat_lt 0 (length more)
@@ -54,7 +54,7 @@ count_of word = option_and_then (λ count. if nat_le 1 count && nat_le count 655
 abbrev pub with_count : Option Who → Option ℕ → Option Item
 with_count who count = option_and_then (λ named. option_map (λ often. record { who = named; count = often }) count) who
 
--- without a `*` a word names once, and else the count stands behind the first `*`
+-- without a `*` a word names once, and else the count stands after the first `*`
 abbrev pub with_star : List ℕ → Option ℕ → Option Item
 with_star word None = with_count (who_of word) (Some 1)
 with_star word (Some star) = with_count (who_of (take star word)) (count_of (drop (star + 1) word))

@@ -36,7 +36,7 @@ ending (Some actors) later = on_ok (λ more. not_too_long (actors ++ more)) late
 unfoldable pub schedule_after : ℕ → Option (List ℕ) → ℕ → List (List ℕ) → Result (List ℕ) ScheduleError
 schedule_after n listed at parts = ending listed (all_actors n (items_from at parts))
 
--- how many bytes parts have, each with one behind it
+-- how many bytes parts have, each with one after it
 abbrev pub bytes_of_parts : List (List ℕ) → ℕ
 bytes_of_parts [] = 0
 bytes_of_parts (part ∷ parts) = length part + 1 + bytes_of_parts parts

@@ -23,4 +23,4 @@ pub returns-clause-distinct : goal.returns-clause-distinct
 returns-clause-distinct c = numbers_distinct c.loop-number.numbers.items c.loop-number.number c.loop-number.invariant.so_far
 
 pub returns-clause-small : goal.returns-clause-small
-returns-clause-small c = numbers_small c.loop-number.numbers.items c.loop-number.number 9223372036854775808 (omega (arith, c.loop-number.invariant.within, c.type_inv.count)) c.loop-number.invariant.so_far
+returns-clause-small c = numbers_small c.loop-number.numbers.items c.loop-number.number 9223372036854775808 (omega (arith, c.loop-number.invariant.within, c.ranges.count)) c.loop-number.invariant.so_far
