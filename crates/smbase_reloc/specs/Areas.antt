@@ -17,8 +17,8 @@ smbase_of area i = area.base - 0x8000 + i * area.tile
 
 -- what a processor has a place for: the code that it enters, and its save state
 pub data Use : Type 0 where
-  pub EntryCode : Use
-  pub SaveState : Use
+  EntryCode : Use
+  SaveState : Use
 
 -- the place (Intel SDM Volume 3, System Management Mode, SMRAM: a processor enters at SMBASE + 8000H, and its state is saved up
 -- to SMBASE + FFFFH; that the last 1,024 bytes are kept for it is the rule of both maps)
@@ -30,9 +30,9 @@ place_of area i SaveState = record { first = smbase_of area i + 0xFC00; after = 
 abbrev pub default_place : Interval
 default_place = record { first = 0x30000; after = 0x40000 }
 
--- any two different places of n processors are disjoint
+-- any two places of n processors are disjoint: those of two processors, and the two of one
 abbrev pub PlacesAreDisjoint : Smram → ℕ → Type 0
-PlacesAreDisjoint area n = (i j : ℕ) (u v : Use) → i < n → j < n → (i, u) ≢ (j, v) → AreDisjoint (place_of area i u) (place_of area j v)
+PlacesAreDisjoint area n = (i j : ℕ) (u v : Use) → i < n → j < n → (i ≢ j) ⊎ (u ≢ v) → AreDisjoint (place_of area i u) (place_of area j v)
 
 -- none meets the place before relocation
 abbrev pub PlacesAvoidDefault : Smram → ℕ → Type 0

@@ -11,7 +11,11 @@ page_from address = (address + 4095) / 4096
 abbrev pub pages_by : ℕ → ℕ
 pages_by address = address / 4096
 
--- the pool of n processors' platform: none without an area, and none where no page is left
+-- what n processors leave of an area
+abbrev pub pool_in : ℕ → Smram → PoolRange
+pool_in n area = record { start = page_from (areas_end area n) * 4096; pages = pages_by (area.base + area.size) - page_from (areas_end area n) }
+
+-- the pool of a platform of n processors: no page without an area, and none where no whole page is left
 abbrev pub pool_of : ℕ → Option Smram → PoolRange
 pool_of n None = record { start = 0; pages = 0 }
-pool_of n (Some area) = record { start = page_from (areas_end area n) * 4096; pages = pages_by (area.base + area.size) - page_from (areas_end area n) }
+pool_of n (Some area) = pool_in n area

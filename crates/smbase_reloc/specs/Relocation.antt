@@ -1,7 +1,7 @@
 -- Relocation: each processor's SMBASE is replaced by that of the layout.
 use Rattle.std.specs.Prelude.{◌≡◌, ℕ, ◌/◌, ◌%◌, ◌^◌, ◌==◌, ◌<◌, Bool, true, false, ◌&&◌, not, if◌then◌else◌, List, map, length, position, slice_get, slice_set, Option, Some, None, option_map, unwrap_or, IsSomeAnd}
 use Rattle.std.specs.List.{enumerate_from}
-use Rattle.save_state_map.specs.declared.field.Field.{Field}
+use Rattle.smm_base.specs.declared.kinds.Cause.{Cause}
 use Rattle.save_state_map.specs.declared.field.Field.TheVariants.{Revision, Smbase}
 use Rattle.save_state_map.specs.Fields.{field_index}
 use Rattle.cpu_table.specs.declared.setup.Smram.{Smram}
@@ -22,18 +22,21 @@ is_at_default registers = unwrap_or (register_of registers Smbase) 0 == 0x30000
 abbrev pub is_fixed : Registers → Bool
 is_fixed registers = not (can_relocate registers && is_at_default registers)
 
--- why processor i is not relocated, which may not be
-abbrev pub refusal_of : ℕ → Option Registers → Option RelocError
-refusal_of i None = None
-refusal_of i (Some registers) = if can_relocate registers then Some (NotDefault i) else Some (NoRelocation i)
+-- why processor i, which may not be relocated, is not
+abbrev pub refusal_of : ℕ → Registers → RelocError
+refusal_of i registers = if can_relocate registers then NotDefault i else NoRelocation i
 
 abbrev pub refusal_at : List Registers → Option ℕ → Option RelocError
 refusal_at all None = None
-refusal_at all (Some i) = refusal_of i (slice_get all i)
+refusal_at all (Some i) = option_map (refusal_of i) (slice_get all i)
 
 -- why no processor is relocated: the first that may not be
 abbrev pub relocation_refusal : List Registers → Option RelocError
 relocation_refusal all = refusal_at all (position is_fixed all)
+
+-- the interrupt of a relocation comes at no HLT and at no I/O instruction
+abbrev pub no_cause : Cause
+no_cause = record { halt = false; io = None }
 
 -- the registers with another SMBASE
 abbrev pub with_smbase : ℕ → Registers → Registers

@@ -1,5 +1,5 @@
 -- How a refusal is printed.
-use Rattle.std.specs.Prelude.{ℕ, List, ◌++◌, codes}
+use Rattle.std.specs.Prelude.{ℕ, List, ◌++◌, codes, decimal}
 use Rattle.smbase_reloc.specs.declared.error.RelocError.{RelocError}
 use Rattle.smbase_reloc.specs.declared.error.RelocError.TheVariants.{NoRelocation, NotDefault}
 
