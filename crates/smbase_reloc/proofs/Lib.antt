@@ -2,4 +2,4 @@ pub mod AreaLemmas
 pub mod Registers
 pub mod Refusals
 pub mod Saving
-pub mod Pages
+pub mod Every

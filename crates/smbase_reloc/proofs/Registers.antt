@@ -1,5 +1,5 @@
 -- Registers that are loaded from a save state in which SMBASE was replaced.
-use Rattle.std.proofs.Common.{◌≡◌, ◌≢◌, ℕ, ◌^◌, ◌<◌, ◌==◌, Bool, true, false, if◌then◌else◌, List, length, map, set, get_or, Option, Some, refl, sym, ap, subst, ◌∙◌, arith}
+use Rattle.std.proofs.Common.{◌≡◌, ◌≢◌, ℕ, ◌^◌, ◌<◌, ◌==◌, Bool, true, false, if◌then◌else◌, List, length, map, set, get_or, Option, Some, None, refl, sym, ap, subst, ◌∙◌, arith}
 use Rattle.std.specs.Prelude.{unwrap_or, option_map, IsSomeAnd, slice_get}
 use Rattle.std.specs.List.{enumerate_from}
 use Rattle.std.proofs.lemmas.List.{get_or-set_same, get_or-set_other}
@@ -50,7 +50,7 @@ each_by : ReadsBack → OthersStay → (m : ImageContents) (x : ℕ) (f : Field)
 each_by reads others m x f true image fits is =
     let it : f ≡ Smbase = same f is in
     let there : kept_number (with_field m Smbase x) Smbase ≡ x =
-        ap (λ (b : Bool). if b then unwrap_or (field_of (with_field m Smbase x) Smbase) 0 else 0) (kept m.kind) ∙ ap (λ (o : Option ℕ). unwrap_or o 0) (reads m Smbase x image fits) in
+    ap (λ (b : Bool). if b then unwrap_or (field_of (with_field m Smbase x) Smbase) 0 else 0) (kept m.kind) ∙ ap (λ (o : Option ℕ). unwrap_or o 0) (reads m Smbase x image fits) in
     ap (kept_number (with_field m Smbase x)) it ∙ there
 each_by reads others m x f false image fits is =
     ap (λ (o : Option ℕ). if is_kept m.kind f then unwrap_or o 0 else 0) (others m Smbase f x image (λ e. differs f is (sym e)))
@@ -68,7 +68,7 @@ loaded_with_smbase reads others m x image fits =
 pub smbase_is : (r : Registers) (x : ℕ) → IsRegisters r → register_of (with_smbase x r) Smbase ≡ Some x
 smbase_is r x are =
     let size : length r.numbers ≡ 44 = are.size in
-    ap (λ (b : Bool). if b then Some (number_of (with_smbase x r) Smbase) else _) (kept r.kind) ∙ ap Some (get_or-set_same r.numbers 36 x 0 (omega (arith, size)))
+    ap (λ (b : Bool). if b then Some (number_of (with_smbase x r) Smbase) else None) (kept r.kind) ∙ ap Some (get_or-set_same r.numbers 36 x 0 (omega (arith, size)))
 
 apart : (f : Field) → is_smbase f ≡ false → field_index f ≢ 36
 apart Smbase h = absurd cc
@@ -76,7 +76,7 @@ apart _ h = omega arith
 
 other_by : (r : Registers) (x : ℕ) (f : Field) (b : Bool) → is_smbase f ≡ b → Smbase ≢ f → register_of (with_smbase x r) f ≡ register_of r f
 other_by r x f true is other = absurd (other (sym (same f is)))
-other_by r x f false is other = ap (λ (n : ℕ). if is_kept r.kind f then Some n else _) (get_or-set_other r.numbers 36 (field_index f) x 0 (apart f is))
+other_by r x f false is other = ap (λ (n : ℕ). if is_kept r.kind f then Some n else None) (get_or-set_other r.numbers 36 (field_index f) x 0 (apart f is))
 
 pub other_is : (r : Registers) (x : ℕ) (f : Field) → Smbase ≢ f → register_of (with_smbase x r) f ≡ register_of r f
 other_is r x f other = other_by r x f (is_smbase f) refl other

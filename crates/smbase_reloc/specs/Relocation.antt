@@ -1,5 +1,5 @@
 -- Relocation: each processor's SMBASE is replaced by that of the layout.
-use Rattle.std.specs.Prelude.{◌≡◌, ℕ, ◌/◌, ◌%◌, ◌^◌, ◌==◌, ◌<◌, Bool, true, false, ◌&&◌, not, if◌then◌else◌, List, map, length, position, slice_get, slice_set, Option, Some, None, option_map, unwrap_or, IsSomeAnd}
+use Rattle.std.specs.Prelude.{◌≡◌, ℕ, ◌/◌, ◌%◌, ◌^◌, ◌==◌, ◌<◌, Bool, true, false, ◌&&◌, not, if◌then◌else◌, List, map, length, position, slice_get, slice_set, Option, Some, None, option_map, unwrap_or, IsSomeAnd, All}
 use Rattle.std.specs.List.{enumerate_from}
 use Rattle.smm_base.specs.declared.kinds.Cause.{Cause}
 use Rattle.save_state_map.specs.declared.field.Field.TheVariants.{Revision, Smbase}
@@ -59,3 +59,7 @@ pub record IsFirstFixed (all : List Registers) (i : ℕ) : Type 0 where
 abbrev pub IsCause : List Registers → RelocError → Type 0
 IsCause all (NoRelocation i) = IsFirstFixed all i × CanRelocate all i false
 IsCause all (NotDefault i) = IsFirstFixed all i × CanRelocate all i true
+
+-- every processor may be relocated: bit 17 of its revision is 1, and its SMBASE is 30000H
+abbrev pub AreRelocatable : List Registers → Type 0
+AreRelocatable all = All (λ registers. (can_relocate registers ≡ true) × (is_at_default registers ≡ true)) all

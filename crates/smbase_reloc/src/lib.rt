@@ -5,6 +5,7 @@
 mod accept;
 mod area;
 mod error;
+mod laws;
 mod places;
 mod pool;
 mod relocation;
@@ -13,9 +14,10 @@ pub use accept::layout;
 pub use area::DefaultArea;
 pub use cpu_table::LayoutError;
 pub use error::RelocError;
+pub use laws::relocation_laws;
 pub use places::Layout;
 pub use pool::{PoolRange, pool_range};
 pub use relocation::{relocate, relocation_fault};
 
-//TEST
-//mod tests;
+#[cfg(test)]
+mod tests;

@@ -91,6 +91,7 @@ fn relocate_one(regs: &Regs, smbase: u64, area: &mut DefaultArea) -> Regs
     field_laws();
     switch_laws();
     let mut state = area.image(regs.kind());
+    let _kind = state.kind();
     save_with_smbase(regs, smbase, &mut state);
     let mut loaded = *regs;
     let _goes_on_by = resume(&area.carry(&state), &mut loaded);
@@ -118,8 +119,8 @@ pub fn relocate(
     if let Some(error) = relocation_fault(regs) {
         return Err(error);
     }
-    for (i, one) in regs.iter_mut().enumerate() {
-        *one = relocate_one(one, layout.smbase(i as u16), area);
+    for i in 0..regs.len() {
+        regs[i] = relocate_one(&regs[i], layout.smbase(i as u16), area);
     }
     Ok(())
 }
