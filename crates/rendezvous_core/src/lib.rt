@@ -12,6 +12,7 @@ mod phase;
 mod schedule;
 mod seat;
 mod serving;
+mod starting;
 mod stepped;
 mod turn;
 mod words;

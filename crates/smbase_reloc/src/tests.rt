@@ -45,7 +45,8 @@ fn a_processor_is_relocated(rt: HostRuntime) -> Result<(), Fail> {
     let mut area = DefaultArea::new(rt.alloc(), &[7; 1024])?;
     let one = layout(&AREA, 1)?;
     assert_eq!(rt; relocate(&one, &mut regs, &mut area), Ok(()));
-    assert_eq!(rt; regs[0].get(Field::Smbase), Some(0x78000));
+    let relocated = &regs[..];
+    assert_eq!(rt; relocated[0].get(Field::Smbase), Some(0x78000));
     assert_eq!(rt; area.bytes().first().copied(), Some(7));
     assert_eq!(rt;
         relocate(&one, &mut regs, &mut area),

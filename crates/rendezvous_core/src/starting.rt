@@ -1,0 +1,70 @@
+ghost use Rattle.std.specs.Prelude.{◌≡◌, ◌+◌, ◌≤◌, ◌^◌, [], ◌∷◌, None, IfOk, OnOk, length};
+ghost use Rattle.cpu_table.specs.Data.{data_of};
+ghost use Rattle.cpu_table.specs.Layout.{layout_refusal};
+ghost use Rattle.smbase_reloc.specs.Relocation.{relocation_refusal, relocated};
+ghost use Rattle.rendezvous_core.specs.Starts.{first_registers, start_refusal};
+
+use cpu_regs::Regs;
+use cpu_table::{Setup, Smram};
+use save_state_map::Image;
+use smbase_reloc::{DefaultArea, RelocError, layout, relocate, relocation_fault};
+use smm_base::NoMemory;
+use std::alloc::Global;
+
+/// Why the one processor of a setup is not relocated. It takes no memory.
+pub fn start_fault(setup: &Setup, image: &Image) -> Option<RelocError>
+    ensures { result ≡ start_refusal (data_of setup.now) (image.now ∷ []) }
+{
+    match setup.smram {
+        None => None,
+        Some(_) => relocation_fault(&[Regs::of(image)]),
+    }
+}
+
+/// Relocates processors that may all be, through a default area of zeros.
+fn relocate_all(
+    alloc: Global,
+    area: &Smram,
+    n: u16,
+    registers: &mut [Regs],
+) -> Result<(), NoMemory>
+    requires some { 1 ≤ n }
+    requires few { n ≤ 64 }
+    requires below { area.now.base + area.now.size ≤ 2 ^ 32 }
+    requires room { layout_refusal area.now n ≡ None }
+    requires each { length registers.old ≡ n }
+    requires relocatable { relocation_refusal registers.old ≡ None }
+    ensures { OnOk result (registers.new ≡ relocated area.now registers.old) }
+{
+    let places = match layout(area, n) {
+        Ok(places) => places,
+        Err(_) => unreachable!(),
+    };
+    let mut default = DefaultArea::new(alloc, &[0; 1024])?;
+    match relocate(&places, registers, &mut default) {
+        Ok(()) => Ok(()),
+        Err(_) => unreachable!(),
+    }
+}
+
+/// The registers of the one processor.
+fn only_registers(registers: &[Regs]) -> Regs
+    requires { length registers.now ≡ 1 }
+    ensures { registers.now ≡ result ∷ [] }
+{
+    registers[0]
+}
+
+/// The registers that the one processor of a setup begins with.
+pub fn start_registers(alloc: Global, setup: &Setup, image: &Image) -> Result<Regs, NoMemory>
+    requires one { setup.now.processors ≡ 1 }
+    requires relocatable { start_refusal (data_of setup.now) (image.now ∷ []) ≡ None }
+    ensures registers { IfOk result (λ registers. first_registers (data_of setup.now) (image.now ∷ []) ≡ registers ∷ []) }
+    ensures kind { IfOk result (λ registers. registers.kind ≡ image.now.kind) }
+{
+    let mut registers = [Regs::of(image)];
+    if let Some(area) = &setup.smram {
+        relocate_all(alloc, area, setup.processors, &mut registers)?;
+    }
+    Ok(only_registers(&registers))
+}
