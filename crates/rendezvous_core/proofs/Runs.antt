@@ -1,7 +1,7 @@
 -- The labels of every schedule on a platform of one processor are a run of the machine.
-use Rattle.std.proofs.Common.{ℕ, zero, suc, ◌≡◌, ◌<◌, arith, false, List, [], ◌∷◌, length, map, Option, Some, None, IsTrue, refl, sym, ap, subst, ◌∙◌}
+use Rattle.std.proofs.Common.{ℕ, zero, suc, ◌≡◌, ◌<◌, arith, false, List, [], ◌∷◌, length, map, Option, Some, IsTrue, refl, sym, ap, subst, ◌∙◌}
 use Rattle.save_state_map.specs.Images.{ImageContents}
-use Rattle.cpu_regs.specs.Registers.{Registers, loaded}
+use Rattle.cpu_regs.specs.Registers.{Registers}
 use Rattle.sync_words.specs.declared.event.Event.{Event}
 use Rattle.sync_words.specs.declared.label.Label.{Label}
 use Rattle.sync_words.specs.declared.label.Label.TheVariants as label
@@ -11,15 +11,12 @@ use Rattle.rendezvous_core.specs.declared.stepped.Stepped.{Stepped}
 use Rattle.rendezvous_core.specs.declared.stepped.Stepped.TheVariants as stepped
 use Rattle.cpu_table.specs.declared.setup.CauseAt.{CauseAt}
 use Rattle.cpu_table.specs.Data.{SetupData}
-use Rattle.cpu_table.specs.declared.setup.Smram.{Smram}
 use Rattle.cpu_table.specs.declared.waves.Wave.{Wave}
-use Rattle.smbase_reloc.specs.Areas.{smbase_of}
-use Rattle.smbase_reloc.specs.Relocation.{with_smbase}
 use Rattle.rendezvous_core.specs.Platform.{Platform, Handler, with_one}
 use Rattle.rendezvous_core.specs.Worlds.{World, step, with_event, events_from, world_after, start, labels, with_label, replay_events, replay_world, last_image}
 use Rattle.rendezvous_core.specs.Machine.{Machine, Rule, effect, IsRun, beginning, machine_after, member}
 use Rattle.rendezvous_core.specs.Setups.{platform_of, handler_of, is_built, AreImagesOf}
-use Rattle.rendezvous_core.specs.Starts.{first_registers, relocated_in}
+use Rattle.rendezvous_core.specs.Starts.{first_registers_of, first_registers}
 use Rattle.rendezvous_core.proofs.SetupLemmas.{built_of, built_with_one, one_image}
 use Rattle.rendezvous_core.proofs.Shape.{Shape, Holds, IsFine, Kept, KeptBy, world_at, machine_at}
 use Rattle.rendezvous_core.proofs.Processor.{fine, processor_kept}
@@ -103,14 +100,6 @@ every_last a b v o ws hs cs r m schedule visits waves =
     last_is p (replay_world p (r ∷ []) (m ∷ []) schedule) (machine_after p (beginning (r ∷ []) (m ∷ [])) (labels (replay_events p (r ∷ []) (m ∷ []) schedule)))
     (fine_after a b v o ws hs cs schedule (start p (r ∷ []) (m ∷ [])) (beginning (r ∷ []) (m ∷ [])) (start_fine a b v o ws hs cs r m visits waves))
 
--- one image makes one processor's registers
-first_in : (area : Option Smram) (m : ImageContents) → (r : Registers) × (relocated_in area (loaded m ∷ []) ≡ r ∷ [])
-first_in None m = (loaded m, refl)
-first_in (Some area) m = (with_smbase (smbase_of area 0) (loaded m), refl)
-
-one_registers : (s : SetupData) (m : ImageContents) → (r : Registers) × (first_registers s (m ∷ []) ≡ r ∷ [])
-one_registers s m = first_in s.smram m
-
 -- the same of the platform of a setup that is built
 abbrev RunsOn : Platform → List Registers → List ImageContents → List ℕ → Type 0
 RunsOn p registers images schedule = IsRun p (beginning registers images) (labels (replay_events p registers images schedule))
@@ -122,7 +111,7 @@ built_run s images schedule built visits given =
     let some : 0 < length s.waves = omega (arith, ap (λ (ws : List Wave). length ws) is.waves) in
     let P : Platform → Type 0 = λ (p : Platform). RunsOn p (first_registers s images) images schedule in
     let Q : List ImageContents → Type 0 = λ (ms : List ImageContents). RunsOn (with_one s.t1 s.t2 s.visits s.ops s.waves (map handler_of s.handlers) s.causes) (first_registers s ms) ms schedule in
-    subst P (built_with_one s built) (subst Q (sym image.1) (subst (λ (rs : List Registers). RunsOn (with_one s.t1 s.t2 s.visits s.ops s.waves (map handler_of s.handlers) s.causes) rs (image.0 ∷ []) schedule) (sym (one_registers s image.0).1) (every_run s.t1 s.t2 s.visits s.ops s.waves (map handler_of s.handlers) s.causes (one_registers s image.0).0 image.0 schedule visits some)))
+    subst P (built_with_one s built) (subst Q (sym image.1) (every_run s.t1 s.t2 s.visits s.ops s.waves (map handler_of s.handlers) s.causes (first_registers_of s 0 image.0) image.0 schedule visits some))
 
 abbrev LastOn : Platform → List Registers → List ImageContents → List ℕ → Type 0
 LastOn p registers images schedule =
@@ -135,4 +124,4 @@ built_last s images schedule built visits given =
     let some : 0 < length s.waves = omega (arith, ap (λ (ws : List Wave). length ws) is.waves) in
     let P : Platform → Type 0 = λ (p : Platform). LastOn p (first_registers s images) images schedule in
     let Q : List ImageContents → Type 0 = λ (ms : List ImageContents). LastOn (with_one s.t1 s.t2 s.visits s.ops s.waves (map handler_of s.handlers) s.causes) (first_registers s ms) ms schedule in
-    subst P (built_with_one s built) (subst Q (sym image.1) (subst (λ (rs : List Registers). LastOn (with_one s.t1 s.t2 s.visits s.ops s.waves (map handler_of s.handlers) s.causes) rs (image.0 ∷ []) schedule) (sym (one_registers s image.0).1) (every_last s.t1 s.t2 s.visits s.ops s.waves (map handler_of s.handlers) s.causes (one_registers s image.0).0 image.0 schedule visits some)))
+    subst P (built_with_one s built) (subst Q (sym image.1) (every_last s.t1 s.t2 s.visits s.ops s.waves (map handler_of s.handlers) s.causes (first_registers_of s 0 image.0) image.0 schedule visits some))

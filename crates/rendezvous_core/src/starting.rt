@@ -2,7 +2,7 @@ ghost use Rattle.std.specs.Prelude.{◌≡◌, ◌+◌, ◌≤◌, ◌^◌, [], 
 ghost use Rattle.cpu_table.specs.Data.{data_of};
 ghost use Rattle.cpu_table.specs.Layout.{layout_refusal};
 ghost use Rattle.smbase_reloc.specs.Relocation.{relocation_refusal, relocated};
-ghost use Rattle.rendezvous_core.specs.Starts.{first_registers, start_refusal};
+ghost use Rattle.rendezvous_core.specs.Starts.{first_registers_of, start_refusal};
 
 use cpu_regs::Regs;
 use cpu_table::{Setup, Smram};
@@ -59,7 +59,7 @@ fn only_registers(registers: &[Regs]) -> Regs
 pub fn start_registers(alloc: Global, setup: &Setup, image: &Image) -> Result<Regs, NoMemory>
     requires one { setup.now.processors ≡ 1 }
     requires relocatable { start_refusal (data_of setup.now) (image.now ∷ []) ≡ None }
-    ensures registers { IfOk result (λ registers. first_registers (data_of setup.now) (image.now ∷ []) ≡ registers ∷ []) }
+    ensures registers { IfOk result (λ registers. registers ≡ first_registers_of (data_of setup.now) 0 image.now) }
     ensures kind { IfOk result (λ registers. registers.kind ≡ image.now.kind) }
 {
     let mut registers = [Regs::of(image)];
