@@ -22,12 +22,7 @@ pub fn start_fault(setup: &Setup, image: &Image) -> Option<RelocError>
 }
 
 /// Relocates processors that may all be, through a default area of zeros.
-fn relocate_all(
-    alloc: Global,
-    area: &Smram,
-    n: u16,
-    registers: &mut [Regs],
-) -> Result<(), NoMemory>
+fn relocate_all(alloc: Global, area: &Smram, n: u16, registers: &mut [Regs]) -> Result<(), NoMemory>
     requires some { 1 ≤ n }
     requires few { n ≤ 64 }
     requires below { area.now.base + area.now.size ≤ 2 ^ 32 }

@@ -1,7 +1,7 @@
 ghost use Rattle.std.specs.Prelude.{◌≡◌, ◌<◌, ◌≤◌, ◌++◌, [], ◌∷◌, length, IfOk, IfErr, OnOk, IsTrue, None, Some};
 ghost use Rattle.cpu_table.specs.Data.{data_of};
 ghost use Rattle.rendezvous_core.specs.Setups.{platform_of, is_built, AreImagesOf};
-ghost use Rattle.rendezvous_core.specs.Starts.{first_registers, start_refusal, IsRefusedBy};
+ghost use Rattle.rendezvous_core.specs.Starts.{first_registers_of, first_registers, start_refusal, IsRefusedBy};
 ghost use Rattle.rendezvous_core.specs.Worlds.{start, step, with_event, is_complete, last_image, MakesNoEvent};
 
 use crate::chair::Chair;
@@ -13,6 +13,7 @@ use crate::starting::{start_fault, start_registers};
 use crate::stepped::Stepped;
 use crate::turn::take_turn;
 use crate::words::Words;
+use cpu_regs::Regs;
 use cpu_table::Setup;
 use save_state_map::Image;
 use smm_base::NoMemory;
@@ -53,20 +54,20 @@ fn only_image(images: &[Image]) -> &Image
 }
 
 impl World {
-    /// The start on the platform of a setup that is built, from the registers and the image of its
-    /// one processor.
-    fn started(
+    /// The start on the platform of a setup that is built, of its one processor with these registers
+    /// and this image.
+    fn with_registers(
         alloc: Global,
         setup: &Setup,
+        registers: Regs,
         image: &Image,
         room: usize,
     ) -> Result<World, NoMemory>
         requires built { IsTrue (is_built (data_of setup.now)) }
-        requires relocatable { start_refusal (data_of setup.now) (image.now ∷ []) ≡ None }
-        ensures { IfOk result (λ w. w ≡ record { platform = platform_of (data_of setup.now); world = start (platform_of (data_of setup.now)) (first_registers (data_of setup.now) (image.now ∷ [])) (image.now ∷ []); events = []; room = room }) }
+        requires kind { registers.kind ≡ image.now.kind }
+        ensures { IfOk result (λ w. w ≡ record { platform = platform_of (data_of setup.now); world = start (platform_of (data_of setup.now)) (registers ∷ []) (image.now ∷ []); events = []; room = room }) }
     {
         let course = Course::new(alloc, setup)?;
-        let registers = start_registers(alloc, setup, image)?;
         Ok(World {
             course,
             words: Words::start(alloc)?,
@@ -76,6 +77,42 @@ impl World {
             events: Vec::with_capacity(alloc, room)?,
             room,
         })
+    }
+
+    /// The same where its relocation isn't refused.
+    fn relocated(
+        alloc: Global,
+        setup: &Setup,
+        image: &Image,
+        room: usize,
+    ) -> Result<World, NoMemory>
+        requires built { IsTrue (is_built (data_of setup.now)) }
+        requires relocatable { start_refusal (data_of setup.now) (image.now ∷ []) ≡ None }
+        ensures { IfOk result (λ w. w ≡ record { platform = platform_of (data_of setup.now); world = start (platform_of (data_of setup.now)) (first_registers_of (data_of setup.now) 0 image.now ∷ []) (image.now ∷ []); events = []; room = room }) }
+    {
+        let registers = start_registers(alloc, setup, image)?;
+        World::with_registers(alloc, setup, registers, image, room)
+    }
+
+    /// The start with one image. A refused relocation is found before any memory is taken.
+    fn with_image(
+        alloc: Global,
+        setup: &Setup,
+        image: &Image,
+        room: usize,
+    ) -> Result<World, WorldError>
+        requires { IsTrue (is_built (data_of setup.now)) }
+        ensures start { IfOk result (λ w. w ≡ record { platform = platform_of (data_of setup.now); world = start (platform_of (data_of setup.now)) (first_registers_of (data_of setup.now) 0 image.now ∷ []) (image.now ∷ []); events = []; room = room }) }
+        ensures relocatable { OnOk result (start_refusal (data_of setup.now) (image.now ∷ []) ≡ None) }
+        ensures refused { IfErr result (IsRefusedBy (start_refusal (data_of setup.now) (image.now ∷ []))) }
+    {
+        if let Some(error) = start_fault(setup, image) {
+            return Err(not_relocated(error));
+        }
+        match World::relocated(alloc, setup, image, room) {
+            Ok(world) => Ok(world),
+            Err(NoMemory) => Err(WorldError::NoMemory),
+        }
     }
 
     /// The start on the platform of a setup that is built, from an image for each processor, of the
@@ -94,14 +131,7 @@ impl World {
         ensures relocatable { OnOk result (start_refusal (data_of setup.now) images.now.items ≡ None) }
         ensures refused { IfErr result (IsRefusedBy (start_refusal (data_of setup.now) images.now.items)) }
     {
-        let image = only_image(images.as_slice());
-        if let Some(error) = start_fault(setup, image) {
-            return Err(not_relocated(error));
-        }
-        match World::started(alloc, setup, image, room) {
-            Ok(world) => Ok(world),
-            Err(NoMemory) => Err(WorldError::NoMemory),
-        }
+        World::with_image(alloc, setup, only_image(images.as_slice()), room)
     }
 
     fn step_processor(&mut self) -> Stepped

@@ -1,5 +1,5 @@
-ghost use Rattle.std.specs.Prelude.{◌≡◌, ◌+◌, ◌*◌, ◌%◌, ◌^◌, ◌<◌, ◌≤◌, IsTrue, None};
-ghost use Rattle.cpu_table.specs.Layout.{layout_refusal, layout_fits};
+ghost use Rattle.std.specs.Prelude.{◌≡◌, ◌+◌, ◌*◌, ◌%◌, ◌^◌, ◌<◌, ◌≤◌, IsTrue, IfSome, None};
+ghost use Rattle.cpu_table.specs.Layout.{areas_end, layout_refusal, layout_fits};
 ghost use Rattle.cpu_table.specs.Ranges.{smram_fits, area_fits};
 ghost use Rattle.smbase_reloc.specs.Pools.{pool_of, pool_in};
 
@@ -29,6 +29,9 @@ pub fn pool_range(smram: &Option<Smram>, n: u16) -> PoolRange
     ensures aligned { result.start % 4096 ≡ 0 }
     ensures low { result.start < 2 ^ 63 }
     ensures few { result.pages ≤ 2048 }
+    // It begins where the layout ends or above, and ends in the area.
+    ensures above { IfSome smram.now (λ area. areas_end area n ≤ result.start) }
+    ensures within { IfSome smram.now (λ area. 0 < result.pages → result.start + result.pages * 4096 ≤ area.base + area.size) }
 {
     match smram {
         None => PoolRange { start: 0, pages: 0 },
@@ -44,6 +47,8 @@ fn range_in(area: &Smram, n: u16) -> PoolRange
     requires accepted { layout_refusal area.now n ≡ None }
     ensures range { result ≡ pool_in n area.now }
     ensures few { result.pages ≤ 2048 }
+    ensures above { areas_end area.now n ≤ result.start }
+    ensures within { 0 < result.pages → result.start + result.pages * 4096 ≤ area.now.base + area.now.size }
 {
     let end = match layout(area, n) {
         Ok(layout) => layout.end(),
