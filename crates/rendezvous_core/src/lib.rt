@@ -24,6 +24,7 @@ pub use law::every_schedule;
 pub use phase::Phase;
 pub use schedule::replay;
 pub use serving::{Operation, ServingStep};
+pub use starting::start_fault;
 pub use stepped::Stepped;
 pub use world::World;
 

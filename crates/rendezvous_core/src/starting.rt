@@ -1,7 +1,8 @@
-ghost use Rattle.std.specs.Prelude.{◌≡◌, ◌+◌, ◌≤◌, ◌^◌, [], ◌∷◌, None, IfOk, OnOk, length};
+ghost use Rattle.std.specs.Prelude.{◌≡◌, ◌+◌, ◌≤◌, ◌^◌, [], ◌∷◌, None, IfOk, OnOk, IsTrue, length};
 ghost use Rattle.cpu_table.specs.Data.{data_of};
 ghost use Rattle.cpu_table.specs.Layout.{layout_refusal};
 ghost use Rattle.smbase_reloc.specs.Relocation.{relocation_refusal, relocated};
+ghost use Rattle.rendezvous_core.specs.Setups.{is_built, AreImagesOf};
 ghost use Rattle.rendezvous_core.specs.Starts.{first_registers_of, start_refusal};
 
 use cpu_regs::Regs;
@@ -11,14 +12,33 @@ use smbase_reloc::{DefaultArea, RelocError, layout, relocate, relocation_fault};
 use smm_base::NoMemory;
 use std::alloc::Global;
 
-/// Why the one processor of a setup is not relocated. It takes no memory.
-pub fn start_fault(setup: &Setup, image: &Image) -> Option<RelocError>
+/// The one image of a platform that is built.
+pub(crate) fn only_image(images: &[Image]) -> &Image
+    requires { length images.now ≡ 1 }
+    ensures { images.now ≡ result.now ∷ [] }
+{
+    &images[0]
+}
+
+/// Why the one processor of a setup, with this image, is not relocated.
+pub(crate) fn image_fault(setup: &Setup, image: &Image) -> Option<RelocError>
     ensures { result ≡ start_refusal (data_of setup.now) (image.now ∷ []) }
 {
     match setup.smram {
         None => None,
         Some(_) => relocation_fault(&[Regs::of(image)]),
     }
+}
+
+/// Why the processors of a setup that is built can't begin with these images, one for each
+/// processor, of the setup's kind: the refusal of their relocation, where the setup has an area
+/// for save states. It takes no memory.
+pub fn start_fault(setup: &Setup, images: &Vec<Image>) -> Option<RelocError>
+    requires built { IsTrue (is_built (data_of setup.now)) }
+    requires images { AreImagesOf (data_of setup.now) images.now.items }
+    ensures { result ≡ start_refusal (data_of setup.now) images.now.items }
+{
+    image_fault(setup, only_image(images.as_slice()))
 }
 
 /// Relocates processors that may all be, through a default area of zeros.

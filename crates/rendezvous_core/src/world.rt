@@ -9,7 +9,7 @@ use crate::course::Course;
 use crate::cpu::Cpu;
 use crate::error::{WorldError, not_relocated};
 use crate::seat::{PROCESSORS, Seat};
-use crate::starting::{start_fault, start_registers};
+use crate::starting::{image_fault, only_image, start_registers};
 use crate::stepped::Stepped;
 use crate::turn::take_turn;
 use crate::words::Words;
@@ -43,14 +43,6 @@ impl Model for World {
     ghost view = { replay_of };
 
     ghost invariant = { IsWorld };
-}
-
-/// The one image of a platform that is built.
-fn only_image(images: &[Image]) -> &Image
-    requires { length images.now ≡ 1 }
-    ensures { images.now ≡ result.now ∷ [] }
-{
-    &images[0]
 }
 
 impl World {
@@ -106,7 +98,7 @@ impl World {
         ensures relocatable { OnOk result (start_refusal (data_of setup.now) (image.now ∷ []) ≡ None) }
         ensures refused { IfErr result (IsRefusedBy (start_refusal (data_of setup.now) (image.now ∷ []))) }
     {
-        if let Some(error) = start_fault(setup, image) {
+        if let Some(error) = image_fault(setup, image) {
             return Err(not_relocated(error));
         }
         match World::relocated(alloc, setup, image, room) {

@@ -6,4 +6,4 @@ use Rattle.rendezvous_core.proofs.world.World.with_image.Goals as goal
 
 pub returns-in-Some-clause-refused : goal.returns-in-Some-clause-refused
 returns-in-Some-clause-refused c =
-    subst (λ (o : Option RelocError). IsRefusedBy o c.not_relocated.result) (sym c.in-Some.is ∙ c.start_fault.ensures) c.not_relocated.ensures
+    subst (λ (o : Option RelocError). IsRefusedBy o c.not_relocated.result) (sym c.in-Some.is ∙ c.image_fault.ensures) c.not_relocated.ensures
