@@ -1,7 +1,8 @@
 -- What a sink in memory has taken.
-use Rattle.std.specs.Prelude.{◌≡◌, ◌==◌, ℕ, ◌+◌, ◌-◌, ◌^◌, ◌≤◌, Bool, false, List, [], min, refl}
+use Rattle.std.specs.Prelude.{◌≡◌, ◌==◌, ℕ, ◌+◌, ◌-◌, ◌^◌, ◌<◌, ◌≤◌, Bool, false, List, [], min, refl}
 use Rattle.std.specs.List.{list_any}
-use Rattle.std.proofs.Common.{ap, ◌∙◌}
+use Rattle.std.proofs.Common.{ap, ◌∙◌, arith}
+use Rattle.smm_base.specs.Faults.{Rose}
 use Rattle.smm_base.specs.Calls.{Leads, stays, goes}
 use Rattle.smm_base.specs.declared.mem_sink.MemSink.{MemSink}
 
@@ -57,3 +58,12 @@ count_at {before} moved none = moved.quiet (ap (list_any (λ number. number == n
 pub keeps_count : {before after : MemSink} → Leads Moves before after → failing_of before ≡ [] → faults_of after ≡ faults_of before
 keeps_count stays none = refl
 keeps_count (goes moved rest) none = keeps_count rest (unlisted moved none) ∙ count_at moved none
+
+-- no write to it fails: none is listed, and the count can still rise
+pub record FaultlessSink (sink : MemSink) : Type 0 where
+  pub unlisted : failing_of sink ≡ []
+  pub count : faults_of sink < 2 ^ 64 - 1
+
+-- then the count doesn't rise
+pub no_write_fails : {before after : MemSink} → FaultlessSink before → Leads Moves before after → Rose (faults_of before) (faults_of after) → ⊥
+no_write_fails works led rose = let same = keeps_count led works.unlisted in let below = works.count in omega (arith, same, below, rose)

@@ -1,10 +1,11 @@
 -- What a store in memory holds.
-use Rattle.std.specs.Prelude.{◌≡◌, ◌==◌, ℕ, ◌+◌, ◌-◌, ◌^◌, ◌≤◌, Bool, false, List, [], Option, min, refl}
+use Rattle.std.specs.Prelude.{◌≡◌, ◌==◌, ℕ, ◌+◌, ◌-◌, ◌^◌, ◌<◌, ◌≤◌, Bool, false, List, [], Option, min, refl}
 use Rattle.std.specs.List.{list_any}
-use Rattle.std.proofs.Common.{ap, ◌∙◌}
+use Rattle.std.proofs.Common.{ap, ◌∙◌, arith}
 use Rattle.std.specs.Option.{option_map}
 use Rattle.std.specs.BTreeMap.{get_by_text}
 use Rattle.smm_base.specs.declared.mem_store.MemStore.{MemStore}
+use Rattle.smm_base.specs.Faults.{Rose}
 use Rattle.smm_base.specs.Calls.{Leads, stays, goes}
 
 -- what a name holds, and `None` where it isn't held
@@ -66,3 +67,16 @@ keeps_counts (goes moved rest) none =
     let first = counts_at moved none in
     let others = keeps_counts rest (unlisted moved none) in
     (others.0 ∙ first.0, others.1 ∙ first.1)
+
+-- no call of it fails: none is listed, and each count can still rise
+pub record FaultlessStore (store : MemStore) : Type 0 where
+  pub unlisted : failing_of store ≡ []
+  pub loads : failed_loads_of store < 2 ^ 64 - 1
+  pub saves : failed_saves_of store < 2 ^ 64 - 1
+
+-- then no count rises
+pub no_load_fails : {before after : MemStore} → FaultlessStore before → Leads Moves before after → Rose (failed_loads_of before) (failed_loads_of after) → ⊥
+no_load_fails works led rose = let same = (keeps_counts led works.unlisted).0 in let below = works.loads in omega (arith, same, below, rose)
+
+pub no_save_fails : {before after : MemStore} → FaultlessStore before → Leads Moves before after → Rose (failed_saves_of before) (failed_saves_of after) → ⊥
+no_save_fails works led rose = let same = (keeps_counts led works.unlisted).1 in let below = works.saves in omega (arith, same, below, rose)

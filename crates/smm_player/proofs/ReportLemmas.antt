@@ -4,7 +4,7 @@ use Rattle.std.proofs.lemmas.Grind.{flat_map-append}
 use Rattle.std.proofs.lemmas.List.{take_more}
 use Rattle.smm_base.specs.Sink.{appended, GainsPrefix, appended-append, appended-nil, GainsPrefix-whole, GainsPrefix-longer, GainsPrefix-after}
 use Rattle.sync_words.specs.declared.event.Event.{Event}
-use Rattle.smm_player.specs.Lines.{event_line}
+use Rattle.sync_words.specs.Texts.{event_line}
 use Rattle.smm_player.specs.Report.{IsBuffered, event_lines}
 
 -- nothing was taken yet

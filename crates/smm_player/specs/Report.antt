@@ -1,11 +1,12 @@
 -- The report of a run. Its form is the project's own.
-use Rattle.std.specs.Prelude.{◌≡◌, ℕ, ◌-◌, ◌==◌, Bool, true, false, not, List, [], ◌∷◌, ◌++◌, Option, if◌then◌else◌, codes, decimal, length, count_by}
+use Rattle.std.specs.Prelude.{◌≡◌, ℕ, ◌-◌, ◌==◌, Bool, true, false, not, List, [], ◌∷◌, ◌++◌, Option, length, count_by}
 use Rattle.std.specs.List.{flat_map}
 use Rattle.smm_base.specs.Sink.{appended}
 use Rattle.sync_words.specs.declared.event.Event.{Event}
 use Rattle.sync_words.specs.declared.label.Label.{Label}
 use Rattle.sync_words.specs.declared.label.Label.TheVariants.{Wave, Served, End}
-use Rattle.smm_player.specs.Lines.{space, line_end, joined, event_line}
+use Rattle.sync_words.specs.Texts.{line_end, event_line}
+use Rattle.smm_player.specs.Lines.{totals_text}
 
 -- the label says that a session ends
 abbrev pub is_end : Label → Bool
@@ -37,9 +38,7 @@ event_lines processors events = flat_map (event_line processors) events
 -- the last line: whether the run is complete, and how many events, ended sessions and unserved waves it has
 abbrev pub last_line : List Event → Bool → List ℕ
 last_line events complete =
-    joined space (if complete then codes "complete" else codes "unfinished")
-    (codes "events" ∷ decimal (length events) ∷ codes "sessions" ∷ decimal (session_count events) ∷ codes "unserved" ∷ decimal (unserved_count events) ∷ [])
-    ++ line_end ∷ []
+    totals_text complete (length events) (session_count events) (unserved_count events) ++ line_end ∷ []
 
 -- the report of a run on so many processors: the lines of its events and the last line
 abbrev pub report_text : ℕ → List Event → Bool → List ℕ

@@ -1,19 +1,16 @@
 ghost use Rattle.std.specs.Prelude.{◌≡◌, ◌++◌, ◌≤◌, [], IsErrOf, OnErr, OnOk};
 ghost use Rattle.smm_base.specs.Faults.{Rose};
 ghost use Rattle.smm_base.specs.Sink.{appended, GainsPrefix};
-ghost use Rattle.smm_player.specs.Lines.{event_line};
+ghost use Rattle.sync_words.specs.Texts.{event_line};
 ghost use Rattle.smm_player.specs.Report.{is_end, is_wave, is_served, session_count, unserved_count, event_lines, last_line, report_text, IsBuffered};
 
-use crate::lines::{LINE_END, Part, SPACE, push_event, push_field};
+use crate::lines::{LINE, Totals, push_event, push_text};
 use smm_base::{NoMemory, Sink, WriteError, write_all};
 use std::alloc::Global;
 use sync_words::{Event, Label};
 
 /// How many bytes of a report are handed to the sink at once, at most.
 const PIECE: usize = 65536;
-
-/// More bytes than any line has.
-const LINE: usize = 256;
 
 /// Writes the report of a run on so many processors: the line of each event in order, and a last
 /// line with `complete` or `unfinished` and the numbers of events, of ended sessions and of waves
@@ -110,16 +107,13 @@ fn make_room<K: Sink>(buffer: &mut Vec<u8>, out: &mut K) -> Result<(), WriteErro
 fn push_totals(events: &[Event], complete: bool, out: &mut Vec<u8>) -> Result<(), NoMemory>
     ensures { OnOk result (out.new.items ≡ out.old.items ++ last_line events.now complete) }
 {
-    let word = if complete { "complete" } else { "unfinished" };
-    let totals = [
-        Part::Word("events"),
-        Part::Number(events.len() as u64),
-        Part::Word("sessions"),
-        Part::Number(count_sessions(events)),
-        Part::Word("unserved"),
-        Part::Number(count_unserved(events)),
-    ];
-    push_field(Part::Word(word), &totals, SPACE, LINE_END, out)
+    let totals = Totals {
+        complete,
+        events: events.len() as u64,
+        sessions: count_sessions(events),
+        unserved: count_unserved(events),
+    };
+    push_text(totals, out)
 }
 
 // How many sessions were ended.

@@ -1,5 +1,8 @@
-ghost use Rattle.std.specs.Prelude.{◌≡◌, ◌≤◌};
+ghost use Rattle.std.specs.Prelude.{◌≡◌, ◌≤◌, Some};
 ghost use Rattle.sync_words.specs.Access.{applied, IsWithin, LeavesWord};
+ghost use Rattle.sync_words.specs.Texts.{access_text};
+
+use std::fmt;
 
 /// The greatest number that a word holds. In the counter it says that the session is closed, and
 /// in the word of the boot processor that there is none.
@@ -34,6 +37,29 @@ pub enum Access {
     ClearSmi,
     /// Replaces an interrupt signal, and waits while a deliverable one stands. Off stays off.
     Raise(u32),
+}
+
+/// Writes the access's word, and its numbers with a colon before each.
+impl fmt::Display for Access {
+    ghost output = { λ access. Some (access_text access) };
+
+    fn fmt<W: fmt::Write>(&self, f: &mut fmt::Formatter<W>) -> fmt::Result {
+        match self {
+            Access::Look => f.write_str("look"),
+            Access::Put(new) => write!(f, "put:{new}"),
+            Access::Up => f.write_str("up"),
+            Access::Down => f.write_str("down"),
+            Access::Lower => f.write_str("lower"),
+            Access::Lock => f.write_str("lock"),
+            Access::Claim(from, new) => write!(f, "claim:{from}:{new}"),
+            Access::Await(from, new) => write!(f, "await:{from}:{new}"),
+            Access::Seek(below) => write!(f, "seek:{below}"),
+            Access::Signal => f.write_str("signal"),
+            Access::TakeSmi => f.write_str("take"),
+            Access::ClearSmi => f.write_str("clear"),
+            Access::Raise(signal) => write!(f, "raise:{signal}"),
+        }
+    }
 }
 
 /// What an access does to the number that it finds.

@@ -8,7 +8,7 @@ mod row;
 mod word;
 
 pub use access::{Access, Applied, LOCKED, apply};
-pub use event::{Event, Hand, Want};
+pub use event::{Event, EventLine, Hand, Want};
 pub use label::{Label, StartRefusal};
 pub use row::Row;
 pub use smm_base::{After, HandlerType, Register, Status};

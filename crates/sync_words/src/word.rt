@@ -1,3 +1,8 @@
+ghost use Rattle.std.specs.Prelude.{Some};
+ghost use Rattle.sync_words.specs.Texts.{word_text};
+
+use std::fmt;
+
 /// A shared word. Each holds a number from 0 to 16,777,215. The last four are one for each processor.
 #[derive(Clone, Copy, Debug, PartialEq, Eq, PartialOrd, Ord)]
 pub enum WordId {
@@ -22,4 +27,24 @@ pub enum WordId {
     Run(u16),
     /// 0 idle, 1 where a job was given, 2 where the job was run.
     Busy(u16),
+}
+
+/// Writes the word's name, with the processor's number behind where there is one for each.
+impl fmt::Display for WordId {
+    ghost output = { λ word. Some (word_text word) };
+
+    fn fmt<W: fmt::Write>(&self, f: &mut fmt::Formatter<W>) -> fmt::Result {
+        match self {
+            WordId::Counter => f.write_str("counter"),
+            WordId::Bsp => f.write_str("bsp"),
+            WordId::Inside => f.write_str("inside"),
+            WordId::Insync => f.write_str("insync"),
+            WordId::Source => f.write_str("source"),
+            WordId::Except => f.write_str("except"),
+            WordId::Pend(cpu) => write!(f, "pend{cpu}"),
+            WordId::Present(cpu) => write!(f, "present{cpu}"),
+            WordId::Run(cpu) => write!(f, "run{cpu}"),
+            WordId::Busy(cpu) => write!(f, "busy{cpu}"),
+        }
+    }
 }
