@@ -1,8 +1,7 @@
 -- The top table of a platform file, but for its lists of tables.
-use Rattle.std.specs.Prelude.{ℕ, pos, ◌≡◌, ◌≤◌, ◌-◌, ◌==◌, IsTrue, if◌then◌else◌, List, [], ◌∷◌, length, Option, Some, None, Ok, Err}
-use Rattle.cpu_table.specs.Distinct.{are_distinct_numbers}
+use Rattle.std.specs.Prelude.{ℕ, pos, ◌≡◌, ◌<◌, ◌≤◌, ◌-◌, ◌==◌, All, eqb, IsTrue, if◌then◌else◌, List, [], ◌∷◌, length, Option, Some, None, Ok, Err}
 use Rattle.cpu_table.specs.Ranges.{policy_fits}
-use Rattle.std.specs.List.{list_any, range_with_len}
+use Rattle.std.specs.List.{IsDistinct, list_any, range_with_len}
 use Rattle.toml.specs.Data.{Data, Members}
 use Rattle.smm_base.specs.declared.kinds.Policy.{Policy}
 use Rattle.smm_base.specs.declared.kinds.Policy.TheVariants.{Elected, Fixed}
@@ -116,4 +115,5 @@ pub record HeadFits (head : Head) : Type 0 where
   pub visits : (1 ≤ head.visits) × (head.visits ≤ 256)
   pub ops : (1 ≤ head.ops) × (head.ops ≤ 4096)
   pub ids : length head.ids ≡ head.processors
-  pub distinct : IsTrue (are_distinct_numbers head.ids)
+  pub distinct : IsDistinct eqb head.ids
+  pub small : All (λ id. id < 9223372036854775808) head.ids

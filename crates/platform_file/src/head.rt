@@ -1,13 +1,12 @@
-ghost use Rattle.std.specs.Prelude.{◌≡◌, ◌≤◌, ◌-◌, IfOk, IfErr, Ok, IsTrue, IsFalse, ◌==◌, [], map, length};
+ghost use Rattle.std.specs.Prelude.{◌≡◌, ◌<◌, ◌≤◌, ◌-◌, All, IfOk, IfErr, Ok, IsTrue, IsFalse, ◌==◌, [], eqb, map, length};
 ghost use Rattle.std.specs.Option.{option_map};
 ghost use Rattle.std.specs.Result.{result_map_both};
 ghost use Rattle.toml.specs.View.{view, table_view};
 ghost use Rattle.cpu_table.specs.Ranges.{policy_fits};
-ghost use Rattle.cpu_table.specs.Distinct.{are_distinct_numbers};
 ghost use Rattle.platform_file.specs.Reading.{StopsAt, each, number_value};
 ghost use Rattle.platform_file.specs.declared.path.Key.TheVariants as key;
 ghost use Rattle.platform_file.specs.declared.fault.WalkFault.TheVariants.{NoMemory};
-ghost use Rattle.std.specs.List.{range_with_len, list_any};
+ghost use Rattle.std.specs.List.{IsDistinct, range_with_len, list_any};
 ghost use Rattle.platform_file.specs.Head.{policy_at, polls_in, polls_at, id_after, ids_of, ids_by, ids_at, smram_at, wave_entries, handler_entries, procedure_entries, cause_entries, keys_by, lists_checked, keys_read, head_at, top, HeadFits};
 
 use crate::document::{
@@ -25,14 +24,14 @@ use toml::{Table, Value};
 pub const GREATEST: u64 = 9223372036854775807;
 
 /// The looks of both rounds of waiting.
-#[derive(Clone, Copy, Debug, PartialEq, Eq)]
+#[derive(Clone, Copy)]
 pub struct Polls {
     pub t1: u32,
     pub t2: u32,
 }
 
 /// The top table of a platform file, but for its lists of tables.
-#[derive(Debug, Drop)]
+#[derive(Drop)]
 pub struct Head {
     pub processors: u16,
     pub kind: MapKind,
@@ -94,6 +93,7 @@ fn polls_at(table: &Table) -> Result<Polls, WalkFault>
 fn id_after(done: &[u64], value: &Value) -> Result<u64, WalkFault>
     ensures id { result ≡ id_after done.now (view value.now) }
     ensures fresh { IfOk result (λ id. IsFalse (list_any (λ x. x == id) done.now)) }
+    ensures small { IfOk result (λ id. id < 9223372036854775808) }
 {
     let id = number_value(value, top(Key::Ids), 0, GREATEST)?;
     if done.contains(&id) {
@@ -107,7 +107,8 @@ fn id_after(done: &[u64], value: &Value) -> Result<u64, WalkFault>
 fn ids_in(alloc: Global, values: &[Value]) -> Result<Vec<u64>, WalkFault>
     ensures ids { IfOk result (λ ids. each id_after [] (map view values.now) ≡ Ok ids.items) }
     ensures count { IfOk result (λ ids. length ids.items ≡ length values.now) }
-    ensures distinct { IfOk result (λ ids. IsTrue (are_distinct_numbers ids.items)) }
+    ensures distinct { IfOk result (λ ids. IsDistinct eqb ids.items) }
+    ensures small { IfOk result (λ ids. All (λ id. id < 9223372036854775808) ids.items) }
     ensures refused { IfErr result (StopsAt (each id_after [] (map view values.now))) }
 {
     let mut ids = Vec::with_capacity(alloc, values.len())?;
@@ -122,7 +123,8 @@ fn ids_in(alloc: Global, values: &[Value]) -> Result<Vec<u64>, WalkFault>
 fn listed_ids(alloc: Global, table: &Table, processors: u16) -> Result<Vec<u64>, WalkFault>
     ensures ids { IfOk result (λ ids. ids_at processors (table_view table.now) ≡ Ok ids.items) }
     ensures count { IfOk result (λ ids. length ids.items ≡ processors) }
-    ensures distinct { IfOk result (λ ids. IsTrue (are_distinct_numbers ids.items)) }
+    ensures distinct { IfOk result (λ ids. IsDistinct eqb ids.items) }
+    ensures small { IfOk result (λ ids. All (λ id. id < 9223372036854775808) ids.items) }
     ensures refused { IfErr result (StopsAt (ids_at processors (table_view table.now))) }
 {
     match member(table, top(Key::Ids)) {
@@ -139,7 +141,8 @@ fn listed_ids(alloc: Global, table: &Table, processors: u16) -> Result<Vec<u64>,
 fn numbers_below(alloc: Global, count: u16) -> Result<Vec<u64>, WalkFault>
     ensures numbers { IfOk result (λ numbers. numbers.items ≡ range_with_len 0 count) }
     ensures count { IfOk result (λ numbers. length numbers.items ≡ count) }
-    ensures distinct { IfOk result (λ numbers. IsTrue (are_distinct_numbers numbers.items)) }
+    ensures distinct { IfOk result (λ numbers. IsDistinct eqb numbers.items) }
+    ensures small { IfOk result (λ numbers. All (λ id. id < 9223372036854775808) numbers.items) }
     ensures refused { IfErr result (λ fault. fault ≡ NoMemory) }
 {
     let mut numbers = Vec::with_capacity(alloc, usize::from(count))?;
@@ -165,7 +168,8 @@ fn ids_at(alloc: Global, table: &Table, processors: u16) -> Result<CpuTable, Wal
     requires { processors ≤ 64 }
     ensures ids { IfOk result (λ ids. ids_at processors (table_view table.now) ≡ Ok ids) }
     ensures length { IfOk result (λ ids. length ids ≡ processors) }
-    ensures distinct { IfOk result (λ ids. IsTrue (are_distinct_numbers ids)) }
+    ensures distinct { IfOk result (λ ids. IsDistinct eqb ids) }
+    ensures small { IfOk result (λ ids. All (λ id. id < 9223372036854775808) ids) }
     ensures refused { IfErr result (StopsAt (ids_at processors (table_view table.now))) }
 {
     let ids = listed_ids(alloc, table, processors)?;

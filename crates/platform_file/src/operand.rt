@@ -15,7 +15,7 @@ use cpu_table::Operand;
 use toml::{Table, Value};
 
 /// One of the eight variables of a session.
-#[derive(Clone, Copy, Debug, PartialEq, Eq)]
+#[derive(Clone, Copy)]
 pub struct Variable {
     /// 0 to 7.
     pub number: u8,

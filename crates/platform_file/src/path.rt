@@ -2,7 +2,7 @@ ghost use Rattle.std.specs.Prelude.{◌≡◌};
 ghost use Rattle.platform_file.specs.Path.{key_text};
 
 /// A table of a platform file. Entries of a list of tables are counted from 0.
-#[derive(Clone, Copy, Debug, PartialEq, Eq)]
+#[derive(Clone, Copy)]
 pub enum TablePlace {
     Top,
     Smram,
@@ -17,7 +17,7 @@ pub enum TablePlace {
 }
 
 /// A key of version 1 of the platform file.
-#[derive(Clone, Copy, Debug, PartialEq, Eq)]
+#[derive(Clone, Copy)]
 pub enum Key {
     Version,
     Processors,
@@ -112,7 +112,7 @@ impl Key {
 }
 
 /// A key of a table.
-#[derive(Clone, Copy, Debug, PartialEq, Eq)]
+#[derive(Clone, Copy)]
 pub struct Path {
     pub place: TablePlace,
     pub key: Key,

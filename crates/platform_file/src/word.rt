@@ -16,14 +16,14 @@ pub trait Word: Sized {
 }
 
 /// The words of the key `policy`.
-#[derive(Clone, Copy, Debug, PartialEq, Eq)]
+#[derive(Clone, Copy)]
 pub enum PolicyWord {
     Elected,
     Fixed,
 }
 
 /// The words of the key `op`.
-#[derive(Clone, Copy, Debug, PartialEq, Eq)]
+#[derive(Clone, Copy)]
 pub enum OperationWord {
     Set,
     Read,

@@ -1,6 +1,5 @@
 ghost use Rattle.std.specs.Prelude.{◌≡◌, ◌<◌, ◌≤◌, ◌&&◌, All, IfOk, IsTrue, eqb, length, nat_le};
-ghost use Rattle.std.specs.List.{list_all};
-ghost use Rattle.std.specs.List.{IsDistinct};
+ghost use Rattle.std.specs.List.{IsDistinct, list_all};
 ghost use Rattle.cpu_table.specs.Ranges.{op_fits, handler_fits, waves_fit, wave_fits, handlers_fit, procedures_fit, causes_fit};
 
 use crate::{is_built, replay};

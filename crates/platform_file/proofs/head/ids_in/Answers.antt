@@ -1,8 +1,9 @@
-use Rattle.std.proofs.Common.{ℕ, ◌==◌, ◌∙◌, sym, inr, arith}
+use Rattle.std.proofs.Common.{ℕ, ◌<◌, ◌∙◌, sym, inr, arith}
+use Rattle.std.proofs.lemmas.List.Elements.{All-push}
 use Rattle.std.proofs.lemmas.Result.{err_from_is_err_and}
 use Rattle.toml.specs.View.{view}
 use Rattle.platform_file.specs.Head.{id_after}
-use Rattle.platform_file.proofs.Growing.{length_more, distinct_more}
+use Rattle.platform_file.proofs.Growing.{length_more, numbers_distinct_more}
 use Rattle.platform_file.proofs.Chains.{each_found, each_stops, each_ends}
 use Rattle.platform_file.proofs.head.ids_in.Goals as goal
 
@@ -19,7 +20,8 @@ loop-value-preserved c =
       so_far = rw c.in_ok-push.ensures.items (next ∙ c.loop-value.invariant.so_far);
       count = rw c.in_ok-push.ensures.items (length_more c.loop-value.ids.items c.in_ok-id.id c.loop-value.value-index c.loop-value.invariant.count);
       within = omega (arith, c.loop-value-test.true);
-      distinct = rw c.in_ok-push.ensures.items (distinct_more (λ (x : ℕ) (y : ℕ). x == y) c.loop-value.ids.items c.in_ok-id.id c.loop-value.invariant.distinct (rw c.deref.ensures.value at c.in_ok-id.ensures.fresh));
+      distinct = rw c.in_ok-push.ensures.items (numbers_distinct_more c.loop-value.ids.items c.in_ok-id.id c.loop-value.invariant.distinct (rw c.deref.ensures.value at c.in_ok-id.ensures.fresh));
+      small = rw c.in_ok-push.ensures.items (All-push (λ (id : ℕ). id < 9223372036854775808) c.loop-value.ids.items c.in_ok-id.id c.loop-value.invariant.small c.in_ok-id.ensures.small);
     }
 
 pub returns-clause-ids : goal.returns-clause-ids
