@@ -1,3 +1,4 @@
 pub mod KeptLemmas
+pub mod LawLemmas
 pub mod OrderLemmas
 pub mod RisingLemmas

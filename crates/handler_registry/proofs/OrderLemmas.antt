@@ -66,8 +66,7 @@ module _ {T : Type 0} where
   order_removed slab new key (k ∷ rest) zero u h at o =
       order_apart slab new key None rest u (subst (λ (x : ℕ). IsApart x rest) at o.1) o.2
   order_removed slab new key (k ∷ rest) (suc i) u h at o =
-      let within : i < length rest = omega (arith, h) in
-      (
+      let within : i < length rest = omega (arith, h) in (
         rw (u.others k (λ (e : k ≡ key). apart_at k rest i o.1 within (at ∙ sym e))) (o.0),
         apart_removed k rest i within o.1,
         order_removed slab new key rest i u within at o.2,

@@ -16,11 +16,11 @@ use std::marker::Model;
 pub const MOST_LIVE: usize = 64;
 
 /// 64 registrations are live, or each serial number was given.
-#[derive(Clone, Copy, Debug, PartialEq, Eq)]
+#[derive(Clone, Copy)]
 pub struct Full;
 
 /// No live registration has the serial number.
-#[derive(Clone, Copy, Debug, PartialEq, Eq)]
+#[derive(Clone, Copy)]
 pub struct Unknown;
 
 fn on_same_list(a: HandlerType, b: HandlerType) -> bool
@@ -162,14 +162,16 @@ fn key_of(slab: &Slab<Registration>, order: &[usize], serial: u32) -> Option<usi
 }
 
 // The key of the first registration of this list above this serial number.
-fn key_after(slab: &Slab<Registration>, order: &[usize], kind: HandlerType, after: u32) -> Option<usize>
+fn key_after(
+    slab: &Slab<Registration>,
+    order: &[usize],
+    kind: HandlerType,
+    after: u32,
+) -> Option<usize>
     ensures { result ≡ find (λ key. option_map_or (is_on_after kind after) (get slab.now key) false) order.now }
 {
-    order
-        .iter()
-        .copied()
-        .find(|key| {
-            slab.get(*key)
-                .is_some_and(|r| on_same_list(r.kind, kind) && after < r.serial)
-        })
+    order.iter().copied().find(|key| {
+        slab.get(*key)
+            .is_some_and(|r| on_same_list(r.kind, kind) && after < r.serial)
+    })
 }
