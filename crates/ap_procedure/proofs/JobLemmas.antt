@@ -1,5 +1,5 @@
 -- Lemmas on what each call makes of the tokens.
-use Rattle.std.proofs.Common.{◌≡◌, ◌≢◌, ℕ, ◌+◌, ◌<◌, ◌≤◌, Bool, true, false, ◌||◌, cond, not, List, [], ◌∷◌, ◌++◌, length, map, Option, Some, None, IsSome, refl, sym, ap, subst, ◌∙◌, inl, inr, arith, ne_eqb}
+use Rattle.std.proofs.Common.{◌≡◌, ◌≢◌, ℕ, ◌+◌, ◌≤◌, Bool, true, false, ◌||◌, cond, not, List, [], ◌∷◌, map, Option, Some, None, IsSome, refl, sym, ap, subst, ◌∙◌, inl, inr, arith, ne_eqb}
 use Rattle.std.proofs.lemmas.Bool.{cases_eq}
 use Rattle.std.specs.List.{cons_option, find, list_any}
 use Rattle.std.specs.Option.{option_map_or}
@@ -9,7 +9,7 @@ use Rattle.ap_procedure.specs.declared.token.Token.{Token}
 use Rattle.ap_procedure.specs.declared.token.TokenState.TheVariants.{Finished}
 use Rattle.ap_procedure.specs.Order.{values_at, IsApart, IsOrder}
 use Rattle.ap_procedure.specs.Given.{is_of, issued, finished, with_finished, without, IsRising}
-use Rattle.ap_procedure.proofs.OrderLemmas.{values_apart, apart_at}
+use Rattle.ap_procedure.proofs.OrderLemmas.{values_apart}
 use Rattle.ap_procedure.proofs.RisingLemmas.{rising_pushed, rising_more}
 
 pub finished_job : (job result : ℕ) (status : Status) (t : Token) → (finished job result status t).job ≡ t.job

@@ -1,13 +1,12 @@
 -- Lemmas on jobs and tokens over many calls.
-use Rattle.std.proofs.Common.{◌≡◌, ◌≢◌, ◌⊎◌, ℕ, zero, suc, ◌+◌, ◌<◌, ◌≤◌, ◌==◌, Bool, true, false, ◌||◌, not, cond, List, [], ◌∷◌, ◌++◌, length, map, get_or, set, replicate, Option, Some, None, IsSome, is_some, refl, sym, ap, subst, ◌∙◌, inl, inr, arith, ne_eqb}
+use Rattle.std.proofs.Common.{◌≡◌, ◌≢◌, ◌⊎◌, ℕ, zero, suc, ◌+◌, ◌<◌, ◌≤◌, ◌==◌, Bool, true, false, ◌||◌, not, cond, List, [], ◌∷◌, ◌++◌, map, get_or, set, replicate, Option, Some, None, is_some, refl, sym, ap, ◌∙◌, inl, inr, arith, ne_eqb}
 use Rattle.std.specs.List.{find, list_any}
 use Rattle.std.specs.Option.{option_map}
-use Rattle.std.proofs.lemmas.Bool.{cases_eq}
 use Rattle.std.proofs.lemmas.List.Folds.{list_any-append}
 use Rattle.smm_base.specs.declared.status.Status.{Status}
 use Rattle.ap_procedure.specs.declared.token.Token.{Token}
 use Rattle.ap_procedure.specs.declared.token.TokenState.TheVariants.{Open}
-use Rattle.ap_procedure.specs.Given.{GivenJobs, no_jobs, job_at, is_of, state_of, is_refused, issued, assigned, finished, with_finished, collected, without, dropped, IsRising}
+use Rattle.ap_procedure.specs.Given.{GivenJobs, no_jobs, job_at, is_of, state_of, is_refused, issued, assigned, finished, with_finished, without, dropped, IsRising}
 use Rattle.ap_procedure.specs.Steps.{Step, MayStep, stepped, all_stepped, is_drop_of, AreGiven}
 use Rattle.ap_procedure.specs.Steps.Step.{Give, Collect, Drop}
 use Rattle.ap_procedure.proofs.JobLemmas.{finished_job, rising_issued, rising_with_finished}

@@ -1,5 +1,5 @@
 -- The jobs that processors were given and the tokens by which they are asked for, and what each call makes of them.
-use Rattle.std.specs.Prelude.{ℕ, ◌+◌, ◌<◌, ◌≤◌, Bool, true, false, ◌&&◌, ◌==◌, not, cond, map, List, [], ◌∷◌, ◌++◌, length, replicate, slice_index_or, slice_set, Option, Some, None}
+use Rattle.std.specs.Prelude.{ℕ, ◌+◌, ◌<◌, ◌≤◌, Bool, ◌&&◌, ◌==◌, not, cond, map, List, [], ◌∷◌, ◌++◌, length, replicate, slice_index_or, slice_set, Option, Some, None}
 use Rattle.std.specs.List.{find, filter}
 use Rattle.std.specs.Option.{option_map}
 use Rattle.smm_base.specs.declared.status.Status.{Status}

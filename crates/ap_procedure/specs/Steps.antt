@@ -1,5 +1,5 @@
 -- What becomes of jobs and tokens over many calls.
-use Rattle.std.specs.Prelude.{◌≡◌, ℕ, ◌<◌, ◌≤◌, Bool, true, false, ◌==◌, cond, List, [], ◌∷◌, length, Option, Some, None, IsSome}
+use Rattle.std.specs.Prelude.{◌≡◌, ℕ, ◌<◌, ◌≤◌, Bool, false, ◌==◌, cond, List, [], ◌∷◌, length, Some, None, IsSome}
 use Rattle.smm_base.specs.declared.status.Status.{Status}
 use Rattle.ap_procedure.specs.Given.{GivenJobs, job_at, is_refused, assigned, collected, dropped, IsRising}
 

@@ -10,3 +10,6 @@ pub use jobs::{Jobs, Refused};
 pub use laws::job_laws;
 pub use token::{Token, TokenState};
 pub use tokens::MOST_TOKENS;
+
+#[cfg(test)]
+mod tests;

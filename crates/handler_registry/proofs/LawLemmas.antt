@@ -58,7 +58,8 @@ given_once_by (Register kind handler) state serial r h f = by_full (is_full stat
         sym same ∙ g
 given_once_by (Unregister x) state serial r h f = others_found x serial state.live r f
 
-later_last : (change : Change) (state : Registrations) → state.last ≤ (changed change state).last
+-- the last serial number never falls
+pub later_last : (change : Change) (state : Registrations) → state.last ≤ (changed change state).last
 later_last (Register kind handler) state = by_full (is_full state)
   where
     by_full : (b : Bool) → state.last ≤ (cond b state (registered kind handler state)).last

@@ -1,0 +1,4 @@
+pub mod AnswerLemmas
+pub mod DueLemmas
+pub mod LiveLemmas
+pub mod WalkLemmas

@@ -1,4 +1,4 @@
-use Rattle.std.proofs.Common.{◌≡◌, ◌-◌, ◌<◌, ◌≤◌, ◌++◌, ◌∷◌, [], List, length, arith, refl, sym, ap, subst, ◌∙◌}
+use Rattle.std.proofs.Common.{◌≡◌, ◌-◌, ◌<◌, ◌≤◌, ◌++◌, ◌∷◌, [], List, length, arith, sym, subst}
 use Rattle.std.specs.Vec.{vec_capacity}
 use Rattle.ap_procedure.specs.declared.token.Token.{Token}
 use Rattle.ap_procedure.specs.Given.{IsRising}

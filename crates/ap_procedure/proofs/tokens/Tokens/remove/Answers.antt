@@ -5,7 +5,7 @@ use Rattle.slab.specs.Slab.{get}
 use Rattle.ap_procedure.specs.declared.token.Token.{Token}
 use Rattle.ap_procedure.specs.Given.{is_of, without}
 use Rattle.ap_procedure.specs.Order.{values_at}
-use Rattle.ap_procedure.proofs.KeptLemmas.{is_at, IsFound, found_place, has_value, shown_less, kept_less, shown_same}
+use Rattle.ap_procedure.proofs.KeptLemmas.{is_at, found_place, has_value, shown_less, kept_less, shown_same}
 use Rattle.ap_procedure.proofs.tokens.Tokens.remove.Goals as goal
 
 pub remove-requires : goal.remove-requires
