@@ -1,3 +1,4 @@
+pub mod Examples
 pub mod KeptLemmas
 pub mod LawLemmas
 pub mod OrderLemmas

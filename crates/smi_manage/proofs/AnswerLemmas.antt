@@ -1,11 +1,10 @@
 -- The answer of what a walk keeps is the answer to its statuses.
-use Rattle.std.proofs.Common.{◌≡◌, Bool, true, false, ◌||◌, cond, List, [], ◌∷◌, ◌++◌, refl, sym, ap, ◌∙◌}
+use Rattle.std.proofs.Common.{◌≡◌, Bool, true, false, ◌||◌, List, [], ◌∷◌, ◌++◌, refl, sym, ap, ◌∙◌}
 use Rattle.std.specs.List.{list_any}
 use Rattle.smm_base.specs.declared.kinds.HandlerType.{HandlerType}
 use Rattle.smm_base.specs.declared.status.Status.{Status}
-use Rattle.smm_base.specs.declared.status.Status.TheVariants.{NotFound}
 use Rattle.smi_manage.specs.declared.running.Running.{Running}
-use Rattle.smi_manage.specs.Answers.{stops, settles, last_or, answer_of, fresh, plus, run, ended_with}
+use Rattle.smi_manage.specs.Answers.{settles, last_or, answer_of, fresh, plus, run, ended_with}
 use Rattle.smi_manage.specs.Walks.{Walk, answered, answer_so_far, HasAnswers}
 
 run_last : (kind : HandlerType) (running : Running) (statuses : List Status) → (run kind running statuses).last ≡ last_or running.last statuses

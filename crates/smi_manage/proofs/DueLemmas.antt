@@ -1,17 +1,17 @@
 -- The registrations of a list between two serial numbers.
-use Rattle.std.proofs.Common.{◌≡◌, ◌≢◌, ℕ, zero, suc, ◌+◌, ◌<◌, ◌≤◌, ◌==◌, Bool, true, false, ◌&&◌, not, cond, nat_le, nat_lt, List, [], ◌∷◌, ◌++◌, length, map, get_or, Option, Some, None, refl, sym, ap, subst, ◌∙◌, arith}
+use Rattle.std.proofs.Common.{◌≡◌, ℕ, suc, ◌+◌, ◌<◌, ◌≤◌, ◌==◌, Bool, true, false, ◌&&◌, not, cond, nat_le, nat_lt, List, [], ◌∷◌, ◌++◌, length, map, get_or, Option, Some, None, refl, sym, ap, ◌∙◌, arith}
 use Rattle.std.specs.List.{filter, find}
 use Rattle.std.specs.Option.{option_map}
 use Rattle.smm_base.specs.declared.kinds.HandlerType.{HandlerType}
 use Rattle.smm_base.specs.declared.kinds.HandlerType.TheVariants.{Root}
 use Rattle.handler_registry.specs.declared.registration.Registration.{Registration}
-use Rattle.handler_registry.specs.Registrations.{Registrations, is_same_list, is_on_after, is_live, is_full, registered, next_of, IsRising, IsRegistered}
+use Rattle.handler_registry.specs.Registrations.{Registrations, is_same_list, is_on_after, is_live, is_full, registered, IsRising, IsRegistered}
 use Rattle.handler_registry.specs.Changes.{Change, changed, all_changed}
 use Rattle.handler_registry.specs.Changes.Change.{Register, Unregister}
 use Rattle.handler_registry.proofs.RisingLemmas.{others}
 use Rattle.handler_registry.proofs.LawLemmas.{later_last}
 use Rattle.smi_manage.specs.Walks.{at_most}
-use Rattle.smi_manage.specs.Calls.{serials_on, still_live}
+use Rattle.smi_manage.specs.Calls.{still_live}
 use Rattle.smi_manage.proofs.LiveLemmas.{survives, survives_all, live_after_all, live_at_place, at_most_last}
 
 -- on this list, above the one before, at most the bound

@@ -1,9 +1,8 @@
 -- Who is still live after calls of `register` and `unregister`.
-use Rattle.std.proofs.Common.{◌≡◌, ◌≢◌, ℕ, zero, suc, ◌+◌, ◌<◌, ◌≤◌, ◌==◌, Bool, true, false, ◌&&◌, ◌||◌, not, cond, List, [], ◌∷◌, ◌++◌, length, map, get_or, refl, sym, ap, subst, ◌∙◌, inl, inr, arith, ne_eqb}
-use Rattle.std.specs.List.{filter, list_any}
+use Rattle.std.proofs.Common.{◌≡◌, ◌≢◌, ℕ, zero, suc, ◌+◌, ◌<◌, ◌≤◌, ◌==◌, Bool, true, false, ◌&&◌, ◌||◌, not, cond, List, [], ◌∷◌, length, get_or, refl, sym, ◌∙◌, inl, inr, arith, ne_eqb}
+use Rattle.std.specs.List.{list_any}
 use Rattle.std.proofs.lemmas.Bool.{cases_eq}
 use Rattle.std.proofs.lemmas.List.Folds.{list_any-append, list_any_at}
-use Rattle.smm_base.specs.declared.kinds.HandlerType.{HandlerType}
 use Rattle.handler_registry.specs.declared.registration.Registration.{Registration}
 use Rattle.handler_registry.specs.Registrations.{Registrations, has_serial, is_full, is_live, registered, IsRising}
 use Rattle.handler_registry.specs.Changes.{Change, changed, all_changed}

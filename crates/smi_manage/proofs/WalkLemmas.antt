@@ -1,15 +1,14 @@
 -- Whom a walk calls.
-use Rattle.std.proofs.Common.{◌≡◌, ℕ, ◌≤◌, Bool, true, false, cond, List, [], ◌∷◌, Option, Some, None, map, refl, sym, ap, ◌∙◌, arith}
+use Rattle.std.proofs.Common.{◌≡◌, ℕ, ◌≤◌, Bool, true, false, cond, List, [], ◌∷◌, Some, map, refl, sym, ap, ◌∙◌, arith}
 use Rattle.smm_base.specs.declared.kinds.HandlerType.{HandlerType}
 use Rattle.smm_base.specs.declared.kinds.HandlerType.TheVariants.{Root, Typed}
-use Rattle.smm_base.specs.declared.status.Status.{Status}
 use Rattle.smm_base.specs.declared.status.Status.TheVariants.{NotFound}
 use Rattle.handler_registry.specs.Registrations.{Registrations, IsRegistered}
 use Rattle.handler_registry.specs.Changes.{Change, changed, all_changed}
 use Rattle.handler_registry.proofs.LawLemmas.{kept, later_last}
 use Rattle.smi_manage.specs.Answers.{stops}
 use Rattle.smi_manage.specs.Walks.{Walk, begun, is_stopped, turn_of, after_turn, answered}
-use Rattle.smi_manage.specs.Calls.{Turn, on_turn, calls, serials_on, still_live, on_first, due}
+use Rattle.smi_manage.specs.Calls.{Turn, on_turn, calls, serials_on, on_first, due}
 use Rattle.smi_manage.proofs.DueLemmas.{due_in, first_of, first_due, rest_due, all_due, still_due}
 
 all_kept : (changes : List Change) (state : Registrations) → IsRegistered state → IsRegistered (all_changed changes state)
