@@ -4,13 +4,12 @@ An actor is a generator. Each `yield` is one access to one word and so one event
 the access found. What follows a `yield` up to the next one belongs to that event: it names the event's label by
 `say`, where it has one, and goes on. The steps are the project's own, after EDK II's PiSmmCpuDxeSmm in outline.
 """
-from images import Image
 from layout import layout_of, relocate
 from registers import after, enter, registers_of
 from serving import LOOK, Server
-from words import LOCKED, NONE, access_text, apply
+from words import LOCKED, NONE, apply
 
-PROMPT, DELAYED, BLOCKED, OFF, INSIDE = 1, 2, 3, 4, 8
+PROMPT, DELAYED, BLOCKED, OFF = 1, 2, 3, 4
 SIGNALS = {"prompt": PROMPT, "delayed": DELAYED, "blocked": BLOCKED, "absent": BLOCKED}
 SILENT = "-"
 

@@ -86,11 +86,20 @@ def load_schedule(name, platform):
         raise Fault(4, f"schedule {fault}") from None
 
 
+def is_name(word):
+    """Is a word of the command line UTF-8, and does it begin with something else than `-`?"""
+    try:
+        os.fsencode(word).decode()
+    except UnicodeDecodeError:
+        return False
+    return not word.startswith("-")
+
+
 def world_of(words, plays_all):
     """The world that a command of the right form leaves."""
-    name, *names = words
-    if name != "step" or len(names) != 4 or any(word.startswith("-") for word in words):
+    if len(words) != 5 or words[0] != "step" or not all(map(is_name, words)):
         raise Fault(1, "usage")
+    names = words[1:]
     platform = load_platform(names[0], plays_all)
     images = load_images(names[1], platform)
     schedule = load_schedule(names[2], platform)
@@ -103,38 +112,28 @@ def world_of(words, plays_all):
 def play(words, plays_all=False):
     """The status of a command, what it writes, and the file that it saves under its last word, or None."""
     try:
-        world = world_of(words, plays_all) if words and all(is_text(word) for word in words) else usage()
+        world = world_of(words, plays_all)
     except Fault as fault:
         return fault.status, f"fault {fault.line}\n", None
     return 0, report_of(world), write_images(world.resumed)
 
 
-def is_text(word):
-    """Is a word of the command line UTF-8?"""
-    try:
-        os.fsencode(word).decode()
-    except UnicodeDecodeError:
-        return False
-    return True
-
-
-def usage():
-    raise Fault(1, "usage")
-
-
-def main(words):
-    plays_all = words[:1] == ["--all"]
-    words = words[plays_all:]
+def command(words, write, plays_all=False):
+    """Does a whole command: its report goes out by `write`, the images after to their file. The status."""
     status, text, after = play(words, plays_all)
     try:
-        sys.stdout.write(text)
-        sys.stdout.flush()
+        write(text)
         if after is not None:
             with open(words[4], "wb") as file:
                 file.write(after)
     except (OSError, ValueError):
         return 7
     return status
+
+
+def main(words):
+    plays_all = words[:1] == ["--all"]
+    return command(words[plays_all:], lambda text: print(text, end="", flush=True), plays_all)
 
 
 if __name__ == "__main__":

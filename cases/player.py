@@ -1,0 +1,154 @@
+"""Plays a case: by the program's builds and by the plain simulator of `reference/`, each in a folder of its own."""
+import os
+import pathlib
+import subprocess
+import sys
+import tempfile
+from dataclasses import dataclass, field
+
+TOP = pathlib.Path(__file__).resolve().parent.parent
+sys.path.insert(0, str(TOP / "reference"))
+
+import smmplay  # noqa: E402
+
+SECONDS = 60
+
+
+@dataclass
+class Outcome:
+    """What a command came to: its status, what it wrote, and the file AFTER, or None where there is none."""
+    status: int
+    text: bytes
+    after: bytes | None
+
+
+@dataclass
+class Expected:
+    """What is known of the outcome; None where nothing is said. `lines` has texts by their number from 1, and the
+    last line as number -1. `any_of` has pairs of a status and a text, of which one must hold."""
+    status: int | None = None
+    text: bytes | None = None
+    lines: dict = field(default_factory=dict)
+    judges_after: bool = False
+    after: bytes | None = None
+    any_of: list = field(default_factory=list)
+
+
+@dataclass
+class Case:
+    """Files by their names, the words of the command, and what is expected. `like` has the files that must give the
+    same outcome."""
+    name: str
+    files: dict
+    words: list = field(default_factory=lambda: ["step", "P", "I", "S", "A"])
+    expected: Expected = field(default_factory=Expected)
+    like: dict | None = None
+
+
+def differences(expected, outcome):
+    """What differs from what is expected."""
+    found = []
+    if expected.status is not None and outcome.status != expected.status:
+        found.append(f"status {outcome.status}, not {expected.status}")
+    if expected.text is not None and outcome.text != expected.text:
+        found.append(first_difference(expected.text, outcome.text))
+    lines = outcome.text.decode(errors="replace").split("\n")[:-1]
+    for number, text in expected.lines.items():
+        line = lines[number - 1 if number > 0 else number] if abs(number) <= len(lines) else "no line"
+        if line != text:
+            found.append(f"line {number} is '{line}', not '{text}'")
+    if expected.judges_after and outcome.after != expected.after:
+        found.append(difference_of_bytes(expected.after, outcome.after))
+    if expected.any_of and (outcome.status, outcome.text) not in expected.any_of:
+        found.append(f"status {outcome.status} {first_line(outcome.text)}, not one of {expected.any_of}")
+    return found
+
+
+def first_line(text):
+    return "'" + text.split(b"\n")[0].decode(errors="replace") + "'"
+
+
+def first_difference(wanted, text):
+    """The first line that differs."""
+    pairs = zip(wanted.split(b"\n") + [b"no line"], text.split(b"\n") + [b"no line"])
+    for number, (one, other) in enumerate(pairs, 1):
+        if one != other:
+            return f"line {number} is '{other.decode(errors='replace')}', not '{one.decode(errors='replace')}'"
+    return f"{len(text)} bytes, not {len(wanted)}"
+
+
+def difference_of_bytes(wanted, data):
+    """The first byte of AFTER that differs."""
+    if wanted is None or data is None or len(wanted) != len(data):
+        return f"AFTER has {size_of(data)}, not {size_of(wanted)}"
+    at = next(i for i in range(len(data)) if data[i] != wanted[i])
+    return f"AFTER's byte {at} is {data[at]:02X}, not {wanted[at]:02X}"
+
+
+def size_of(data):
+    return "no file" if data is None else f"{len(data)} bytes"
+
+
+class Folder:
+    """A folder with a case's files, in which a command is run once."""
+
+    def __init__(self, files):
+        self.files = files
+
+    def __enter__(self):
+        self.held = tempfile.TemporaryDirectory(prefix="smmplay-case-")
+        self.path = pathlib.Path(self.held.name)
+        for name, data in self.files.items():
+            (self.path / name).write_bytes(data)
+        return self
+
+    def __exit__(self, *exception):
+        os.chdir("/")
+        self.held.cleanup()
+
+    def after(self, words):
+        """The file AFTER, where the words name one that wasn't there."""
+        name = words[4] if len(words) == 5 else "A"
+        file = self.path / name
+        return file.read_bytes() if file.is_file() else None
+
+
+def by_program(path, files, words):
+    """The outcome of a build of the program."""
+    with Folder(files) as folder:
+        done = subprocess.run([path, *words], cwd=folder.path, capture_output=True, timeout=SECONDS)
+        return Outcome(done.returncode, done.stdout, folder.after(words))
+
+
+def by_reference(plays_all, files, words):
+    """The outcome of the plain simulator."""
+    with Folder(files) as folder:
+        os.chdir(folder.path)
+        text = []
+        status = smmplay.command(words, text.append, plays_all)
+        return Outcome(status, "".join(text).encode(errors="surrogateescape"), folder.after(words))
+
+
+def judge(case, programs):
+    """Plays a case: a pair of a player's name and what differs, for the simulator and for each build.
+
+    The simulator plays each case whole. Where the case's platform isn't built yet, the program must end with status
+    9 as the simulator says; else it must do what is expected, and in both cases what the simulator does."""
+    whole = by_reference(True, case.files, case.words)
+    today = by_reference(False, case.files, case.words)
+    expected = case.expected
+    if case.like is not None:
+        expected = exactly(by_reference(True, case.like, case.words))
+    judged = [("reference", differences(expected, whole))]
+    for name, path in programs:
+        outcome = by_program(path, case.files, case.words)
+        found = differences(exactly(today), outcome)
+        if today.status != 9 or whole.status == 9:
+            found = found or differences(expected, outcome)
+        judged.append((name, found))
+    return judged
+
+
+def exactly(outcome):
+    """What is expected where an outcome is to be the same."""
+    return Expected(outcome.status, outcome.text, {}, True, outcome.after)
