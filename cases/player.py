@@ -9,6 +9,7 @@ from dataclasses import dataclass, field
 TOP = pathlib.Path(__file__).resolve().parent.parent
 sys.path.insert(0, str(TOP / "reference"))
 
+import machine  # noqa: E402
 import smmplay  # noqa: E402
 
 SECONDS = 60
@@ -129,17 +130,33 @@ def by_reference(plays_all, files, words):
         return Outcome(status, "".join(text).encode(errors="surrogateescape"), folder.after(words))
 
 
+def broken_rule(files, words):
+    """What the abstract machine finds wrong in a replay of the simulator; nothing where the command is refused."""
+    with Folder(files) as folder:
+        os.chdir(folder.path)
+        try:
+            world = smmplay.world_of(words, True)
+        except smmplay.Fault:
+            return []
+        images = smmplay.load_images(words[2], world.platform)
+    broken, after = machine.first_broken(world.platform, images, world.labels())
+    if broken:
+        return [f"label {broken[0] + 1}, {world.labels()[broken[0]]}, breaks rule {broken[1]}"]
+    same = [one.data == other.data for one, other in zip(after.resumed, world.resumed)]
+    return [] if all(same) else ["an image after isn't the machine's last resumed one"]
+
+
 def judge(case, programs):
     """Plays a case: a pair of a player's name and what differs, for the simulator and for each build.
 
-    The simulator plays each case whole. Where the case's platform isn't built yet, the program must end with status
+    The simulator plays each case whole, and what it plays must be a run of the abstract machine. Where the case's platform isn't built yet, the program must end with status
     9 as the simulator says; else it must do what is expected, and in both cases what the simulator does."""
     whole = by_reference(True, case.files, case.words)
     today = by_reference(False, case.files, case.words)
     expected = case.expected
     if case.like is not None:
         expected = exactly(by_reference(True, case.like, case.words))
-    judged = [("reference", differences(expected, whole))]
+    judged = [("reference", differences(expected, whole) + broken_rule(case.files, case.words))]
     for name, path in programs:
         outcome = by_program(path, case.files, case.words)
         found = differences(exactly(today), outcome)
