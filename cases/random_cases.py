@@ -25,7 +25,7 @@ def random_case(seed, number):
     tree = platform_tree(draw, kind != "any")
     n, files = tree["processors"], {}
     files["P"] = toml_of(tree, draw).encode()
-    files["I"] = image_file(draw, tree["map"], n)
+    files["I"] = image_file(draw, tree["map"], n, "smram" in tree and draw.random() < 0.8)
     files["S"] = schedule_text(draw, n).encode()
     words = ["step", "P", "I", "S", "A"]
     if kind == "platform":
@@ -250,17 +250,20 @@ def faulty_words(draw, words):
 
 # ---- images and schedules
 
-def image_file(draw, kind, n):
-    """Images of zeros or of random bytes, with a revision and an SMBASE of a few sorts."""
+def image_file(draw, kind, n, moves=False):
+    """Images of zeros or of random bytes, with a revision and an SMBASE of a few sorts; those that can be relocated,
+    where that is asked."""
     size = SIZES[kind]
     header = b"SMIM" + bytes([1, 0, list(SIZES).index(kind), 0]) + n.to_bytes(4, "little")
-    return header + b"".join(one_image(draw, size) for _ in range(n))
+    return header + b"".join(one_image(draw, size, moves) for _ in range(n))
 
 
-def one_image(draw, size):
+def one_image(draw, size, moves):
     image = bytearray(draw.randbytes(size) if draw.random() < 0.6 else bytes(size))
     revision = draw.choice([0x30004, 0x30004, 0x30004, 0x30003, 0x20004, 0x10004, 0, draw.getrandbits(32)])
     smbase = draw.choice([0x30000, 0x30000, 0x30000, 0x40000])
+    if moves:
+        revision, smbase = revision | 0x20000, 0x30000
     image[size - 0x104:size - 0x100] = revision.to_bytes(4, "little")
     image[size - 0x108:size - 0x104] = smbase.to_bytes(4, "little")
     return bytes(image)
