@@ -38,12 +38,13 @@ class Expected:
 @dataclass
 class Case:
     """Files by their names, the words of the command, and what is expected. `like` has the files that must give the
-    same outcome."""
+    same outcome. With `is_full` the standard output takes nothing."""
     name: str
     files: dict
     words: list = field(default_factory=lambda: ["step", "P", "I", "S", "A"])
     expected: Expected = field(default_factory=Expected)
     like: dict | None = None
+    is_full: bool = False
 
 
 def differences(expected, outcome):
@@ -114,20 +115,29 @@ class Folder:
         return file.read_bytes() if file.is_file() else None
 
 
-def by_program(path, files, words):
+def by_program(path, case, files):
     """The outcome of a build of the program."""
-    with Folder(files) as folder:
-        done = subprocess.run([path, *words], cwd=folder.path, capture_output=True, timeout=SECONDS)
-        return Outcome(done.returncode, done.stdout, folder.after(words))
+    with Folder(files) as folder, open("/dev/full" if case.is_full else folder.path / ".report", "w+b") as report:
+        done = subprocess.run([path, *case.words], cwd=folder.path, stdout=report, stderr=subprocess.DEVNULL, timeout=SECONDS)
+        return Outcome(done.returncode, b"" if case.is_full else read_back(report), folder.after(case.words))
 
 
-def by_reference(plays_all, files, words):
+def read_back(report):
+    report.seek(0)
+    return report.read()
+
+
+def by_reference(plays_all, case, files):
     """The outcome of the plain simulator."""
+    def write(text):
+        if case.is_full:
+            raise OSError
+        written.append(text)
+    written = []
     with Folder(files) as folder:
         os.chdir(folder.path)
-        text = []
-        status = smmplay.command(words, text.append, plays_all)
-        return Outcome(status, "".join(text).encode(errors="surrogateescape"), folder.after(words))
+        status = smmplay.command(case.words, write, plays_all)
+        return Outcome(status, "".join(written).encode(), folder.after(case.words))
 
 
 def broken_rule(files, words):
@@ -151,14 +161,14 @@ def judge(case, programs):
 
     The simulator plays each case whole, and what it plays must be a run of the abstract machine. Where the case's platform isn't built yet, the program must end with status
     9 as the simulator says; else it must do what is expected, and in both cases what the simulator does."""
-    whole = by_reference(True, case.files, case.words)
-    today = by_reference(False, case.files, case.words)
+    whole = by_reference(True, case, case.files)
+    today = by_reference(False, case, case.files)
     expected = case.expected
     if case.like is not None:
-        expected = exactly(by_reference(True, case.like, case.words))
+        expected = exactly(by_reference(True, case, case.like))
     judged = [("reference", differences(expected, whole) + broken_rule(case.files, case.words))]
     for name, path in programs:
-        outcome = by_program(path, case.files, case.words)
+        outcome = by_program(path, case, case.files)
         found = differences(exactly(today), outcome)
         if today.status != 9 or whole.status == 9:
             found = found or differences(expected, outcome)

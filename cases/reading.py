@@ -14,7 +14,7 @@ TOO_LONG = {"P": 1_048_577, "I": 65_549, "S": 4_194_305}
 
 def lines_of(path):
     """The lines of a table without the empty ones and the comments."""
-    text = path.read_text()
+    text = path.read_text(encoding="utf-8")
     return [line for line in text.split("\n") if line and not line.startswith("#")]
 
 
@@ -67,7 +67,7 @@ def folder_cases():
 def folder_case(folder):
     images = images_of(lines_of(folder / "images.txt"))
     files = {"P": (folder / "platform.toml").read_bytes(), "I": images, "S": (folder / "schedule.txt").read_bytes()}
-    expected = Expected(status=int((folder / "status.txt").read_text()))
+    expected = Expected(status=int((folder / "status.txt").read_text(encoding="utf-8")))
     if (folder / "report.txt").exists():
         expected.text = (folder / "report.txt").read_bytes()
     if (folder / "lines.txt").exists():
@@ -111,7 +111,7 @@ def table_cases():
 
 
 def base(name):
-    return (HERE / "tables" / name).read_text()
+    return (HERE / "tables" / name).read_text(encoding="utf-8")
 
 
 def split(line):
@@ -190,18 +190,26 @@ def image_cases(path):
 
 def word_cases(path):
     """`WORDS => STATUS LINE`: the words of a command, over files that are played, that are missing or that are too
-    long by one byte."""
-    cases = []
-    for row in lines_of(path):
-        words, answer = split(row)
-        status, _, line = answer.partition(" ")
-        known = {"P": base("one_processor.toml").encode(), "I": zero_images("intel64", 1), "S": b"1*3 0*15 1*3 0*6"}
-        known |= {f"{name}+": bytes(length) for name, length in TOO_LONG.items()}
-        used = {name: data for name, data in known.items() if name in words.split()}
-        expected = fault(int(status), line.removeprefix("fault ")) if line else Expected(status=int(status))
-        expected.judges_after = expected.judges_after and "I" not in words.split()[4:]
-        cases.append(Case(f"{path.name}: {row}", used, [word for word in words.split(" ") if word], expected))
-    return cases
+    long by one byte. With `>full` behind the words the standard output takes nothing."""
+    return [word_case(path, row) for row in lines_of(path)]
+
+
+def known_files():
+    """P, I and S are played; P+, I+ and S+ are longer than is read."""
+    files = {"P": base("one_processor.toml").encode(), "I": zero_images("intel64", 1), "S": b"1*3 0*15 1*3 0*6"}
+    return files | {f"{name}+": bytes(length) for name, length in TOO_LONG.items()}
+
+
+def word_case(path, row):
+    line, answer = split(row)
+    words = [word for word in line.split(" ") if word]
+    is_full = words[-1:] == [">full"]
+    words = words[:len(words) - is_full]
+    status, _, told = answer.partition(" ")
+    files = {name: data for name, data in known_files().items() if name in words}
+    expected = fault(int(status), told.removeprefix("fault ")) if told else Expected(int(status))
+    expected.judges_after = (bool(told) or is_full) and words[4:] != ["I"]
+    return Case(f"{path.name}: {row}", files, words, expected, is_full=is_full)
 
 
 WHOLE_WRITE = "1*3 0*18 1*3 0*6"

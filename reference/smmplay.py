@@ -119,7 +119,8 @@ def play(words, plays_all=False):
 
 
 def command(words, write, plays_all=False):
-    """Does a whole command: its report goes out by `write`, the images after to their file. The status."""
+    """Does a whole command: its text goes out by `write`, the images after to their file. The status; that of a refusal
+    stays where its line can't be written."""
     status, text, after = play(words, plays_all)
     try:
         write(text)
@@ -127,13 +128,19 @@ def command(words, write, plays_all=False):
             with open(words[4], "wb") as file:
                 file.write(after)
     except (OSError, ValueError):
-        return 7
+        return status or 7
     return status
+
+
+def to_standard_output(text):
+    data = text.encode()
+    while data:
+        data = data[os.write(1, data):]
 
 
 def main(words):
     plays_all = words[:1] == ["--all"]
-    return command(words[plays_all:], lambda text: print(text, end="", flush=True), plays_all)
+    return command(words[plays_all:], to_standard_output, plays_all)
 
 
 if __name__ == "__main__":
