@@ -38,13 +38,15 @@ class Expected:
 @dataclass
 class Case:
     """Files by their names, the words of the command, and what is expected. `like` has the files that must give the
-    same outcome. With `is_full` the standard output takes nothing."""
+    same outcome. With `is_full` the standard output takes nothing. `broken` has a change of the report and the rule
+    that it breaks: such a case is the abstract machine's alone."""
     name: str
     files: dict
     words: list = field(default_factory=lambda: ["step", "P", "I", "S", "A"])
     expected: Expected = field(default_factory=Expected)
     like: dict | None = None
     is_full: bool = False
+    broken: tuple | None = None
 
 
 def differences(expected, outcome):
@@ -156,24 +158,45 @@ def broken_rule(files, words):
     return [] if all(same) else ["an image after isn't the machine's last resumed one"]
 
 
-def judge(case, programs):
-    """Plays a case: a pair of a player's name and what differs, for the simulator and for each build.
+def broken_line(case, change):
+    """The first line of a changed report whose label breaks its rule, as `line L rule R`."""
+    with Folder(case.files) as folder:
+        os.chdir(folder.path)
+        world = smmplay.world_of(case.words, True)
+        images = smmplay.load_images(case.words[2], world.platform)
+    way, number = change.split()
+    before, after = int(number) - (way == "without"), int(number) - (way == "twice")
+    events = world.events[:before] + world.events[after:]
+    labels = [(line, event[0], event[4]) for line, event in enumerate(events, 1) if event[4] != "-"]
+    broken, _ = machine.first_broken(world.platform, images, [label[1:] for label in labels])
+    return f"line {labels[broken[0]][0]} rule {broken[1]}" if broken else "a run"
 
-    The simulator plays each case whole, and what it plays must be a run of the abstract machine. Where the case's platform isn't built yet, the program must end with status
-    9 as the simulator says; else it must do what is expected, and in both cases what the simulator does."""
+
+def judge(case, programs):
+    """Plays a case: pairs of a player's name and what differs, for the simulator and for each build.
+
+    The simulator plays each case whole, and what it plays must be a run of the abstract machine. The program must do what
+    the simulator does that knows what is built; and what is expected, where that isn't status 9 alone."""
+    if case.broken is not None:
+        return [("reference", differing_rule(case))]
     whole = by_reference(True, case, case.files)
     today = by_reference(False, case, case.files)
-    expected = case.expected
-    if case.like is not None:
-        expected = exactly(by_reference(True, case, case.like))
+    expected = case.expected if case.like is None else exactly(by_reference(True, case, case.like))
     judged = [("reference", differences(expected, whole) + broken_rule(case.files, case.words))]
+    is_built = today.status != 9 or whole.status == 9
     for name, path in programs:
         outcome = by_program(path, case, case.files)
         found = differences(exactly(today), outcome)
-        if today.status != 9 or whole.status == 9:
-            found = found or differences(expected, outcome)
+        if is_built and not found:
+            found = differences(expected, outcome)
         judged.append((name, found))
     return judged
+
+
+def differing_rule(case):
+    change, wanted = case.broken
+    found = broken_line(case, change)
+    return [] if found == wanted else [f"{found}, not {wanted}"]
 
 
 def exactly(outcome):

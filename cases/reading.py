@@ -103,7 +103,7 @@ def unescaped(text):
 def table_cases():
     """A case for each line of each table."""
     readers = {"platforms": platform_cases, "schedules": schedule_cases, "images": image_cases,
-               "words": word_cases, "writes": write_cases}
+               "words": word_cases, "writes": write_cases, "rules": rule_cases}
     cases = []
     for path in sorted((HERE / "tables").glob("*.txt")):
         cases += readers[path.stem.split("_")[0]](path)
@@ -236,3 +236,13 @@ def write_case(path, row):
     expected.after = after_of([part.strip() for part in changes.split(",")] if changes else ["unchanged"], images)
     files = {"P": platform.encode(), "I": images, "S": WHOLE_WRITE.encode()}
     return Case(f"{path.name}: {row}", files, expected=expected)
+
+
+def rule_cases(path):
+    """`CASE => CHANGE => line L rule R`: the report of a case of `played/`, changed, and the rule that it breaks."""
+    cases = []
+    for row in lines_of(path):
+        name, change, broken = split(row)
+        played = folder_case(HERE / "played" / name)
+        cases.append(Case(f"{path.name}: {row}", played.files, broken=(change, broken)))
+    return cases
