@@ -5,8 +5,13 @@ processors, other operations, or a fault in one of the files or in the words.
 """
 import random
 
-from player import Case
+from player import Case  # it finds the modules of reference/
 from reading import SIZES
+
+import built
+
+# How often a case is of a kind: a platform that is built, any platform, and a fault of each file or of the words.
+WEIGHTS = {"built": 50, "any": 18, "platform": 14, "images": 7, "schedule": 7, "words": 4}
 
 REGISTERS = """GDTBASE IDTBASE LDTBASE GDTLIMIT LDTINFO ES CS SS DS FS GS LDTR_SEL TR_SEL DR7 DR6 R8 R9 R15 RAX RBX RCX RDX
     RSP RBP RSI RDI RIP RFLAGS CR0 CR3 CR4 IO LMA PROCESSOR_ID AUTO_HALT IO_RESTART""".split()
@@ -21,7 +26,7 @@ ALONE, WITH_OTHERS = ["set", "alloc", "free", "register", "unregister", "manage"
 def random_case(seed, number):
     """The case of a seed and a number."""
     draw = random.Random(f"{seed} {number}")
-    kind = draw.choices(["built", "any", "platform", "images", "schedule", "words"], [50, 18, 14, 7, 7, 4])[0]
+    kind = draw.choices(list(WEIGHTS), WEIGHTS.values())[0]
     tree = platform_tree(draw, kind != "any")
     n, files = tree["processors"], {}
     files["P"] = toml_of(tree, draw).encode()
@@ -53,6 +58,8 @@ def platform_tree(draw, is_built):
         tree["ids"] = draw.sample([0, 1, 2, 3, 17, 2**31, 2**63 - 1, *range(100, 164)], n)
     if not is_built:
         spread(draw, tree)
+    if draw.random() < 0.4 and (built.SMRAM_IS_BUILT or not is_built):
+        tree["smram"] = area(draw, tree["processors"])
     count = 1 if is_built else draw.randint(1, min(visits, 3))
     tree["wave"] = [wave(draw, n, is_built) for _ in range(count)]
     tree["handler"] = handlers(draw, n, is_built)
@@ -66,11 +73,17 @@ def spread(draw, tree):
     tree["mode"] = draw.choice(["traditional", "relaxed"])
     if draw.random() < 0.3:
         tree["policy"], tree["fixed"] = "fixed", draw.randrange(tree["processors"])
-    if draw.random() < 0.4:
-        tile = draw.choice([2048, 4096, 8192, 16384, 32768])
-        pages = draw.choice([0, 1, 2, 5])
-        size = (tree["processors"] - 1) * tile + 0x8000 + pages * 4096
-        tree["smram"] = {"base": draw.choice([0x40000, 0x80000, 0x81800]), "size": size, "tile": tile, "code": tile - 1024}
+
+
+def area(draw, n):
+    """An area for save states with a pool of a few pages; sometimes one whose layout is refused."""
+    tile = draw.choice([2048, 4096, 8192, 16384, 32768])
+    pages = draw.choice([0, 1, 2, 5])
+    smram = {"base": draw.choice([0x40000, 0x80000, 0x81800]), "size": (n - 1) * tile + 0x8000 + pages * 4096,
+             "tile": tile, "code": draw.choice([0, tile - 1024])}
+    if draw.random() < 0.15:
+        smram |= draw.choice([{"tile": 3000}, {"code": tile - 1023}, {"base": 0x3FFFF}, {"size": 0x7FFF}])
+    return smram
 
 
 def wave(draw, n, is_built):
@@ -83,7 +96,8 @@ def wave(draw, n, is_built):
 
 def handlers(draw, n, is_built):
     if is_built:
-        ops = [operation(draw, "write", n) for _ in range(draw.choice([0, 1, 1, 2, 3, 5]))]
+        words = sorted(built.OPERATIONS)
+        ops = [operation(draw, draw.choice(words), n) for _ in range(draw.choice([0, 1, 1, 2, 3, 5]))]
         return draw.choice([[], [handler(draw, 0, "root", ops)], [handler(draw, 0, "root", ops)]])
     names = ["write", "write", "read", "read", *ALONE, *WITH_OTHERS, *WITH_OTHERS]
     made = []

@@ -195,8 +195,10 @@ def word_cases(path):
 
 
 def known_files():
-    """P, I and S are played; P+, I+ and S+ are longer than is read."""
+    """P, I and S are played; P= and S= too, and are as long as may be; P+, I+ and S+ are longer than is read."""
     files = {"P": base("one_processor.toml").encode(), "I": zero_images("intel64", 1), "S": b"1*3 0*15 1*3 0*6"}
+    files["P="] = files["P"] + b"#" * (TOO_LONG["P"] - 1 - len(files["P"]))
+    files["S="] = files["S"].rjust(TOO_LONG["S"] - 1)
     return files | {f"{name}+": bytes(length) for name, length in TOO_LONG.items()}
 
 
