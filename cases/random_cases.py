@@ -53,7 +53,7 @@ def platform_tree(draw, is_built):
     looks = [1, 2, 3, 8] if n < 64 else [1, 2]
     tree = {"version": 1, "processors": n, "map": draw.choice(["intel64", "intel64", "ia32"]), "policy": "elected",
             "mode": "traditional", "polls": [draw.choice(looks), draw.choice(looks)], "visits": visits,
-            "ops": draw.choice([1, 2, 3, 4, 5, 8, 64, 64, 64])}
+            "ops": draw.choice([1, 2, 3, 4, 5, 8, 64, 64, 64, 64, 64, 64])}
     if draw.random() < 0.3:
         tree["ids"] = draw.sample([0, 1, 2, 3, 17, 2**31, 2**63 - 1, *range(100, 164)], n)
     if not is_built:
@@ -89,9 +89,9 @@ def area(draw, n):
 def wave(draw, n, is_built):
     if is_built:
         return {"status": ["prompt"], "manage": ["root"]}
-    arrivals = ["prompt"] * 6 + ["delayed", "blocked", "absent"]
-    kinds = ["root", "root", *GUIDS]
-    return {"status": draw.choices(arrivals, k=n), "manage": draw.choices(kinds, k=draw.choice([0, 1, 1, 2, 3]))}
+    arrivals = ["prompt"] * 9 + ["delayed", "blocked", "absent"]
+    kinds = ["root"] * 8 + GUIDS
+    return {"status": draw.choices(arrivals, k=n), "manage": draw.choices(kinds, k=draw.choice([0, 1, 1, 1, 1, 2, 3]))}
 
 
 def handlers(draw, n, is_built):
@@ -99,11 +99,11 @@ def handlers(draw, n, is_built):
         words = sorted(built.OPERATIONS)
         ops = [operation(draw, draw.choice(words), n) for _ in range(draw.choice([0, 1, 1, 2, 3, 5]))]
         return draw.choice([[], [handler(draw, 0, "root", ops)], [handler(draw, 0, "root", ops)]])
-    names = ["write", "write", "read", "read", *ALONE, *WITH_OTHERS, *WITH_OTHERS]
+    names = ["write", "write", "read", "read", *ALONE, *WITH_OTHERS, *WITH_OTHERS, "launch"]
     made = []
     for place in range(draw.choice([0, 1, 1, 2, 3])):
-        ops = [operation(draw, draw.choice(names), n) for _ in range(draw.choice([0, 1, 2, 3, 6]))]
-        made.append(handler(draw, place, draw.choice(["root", "root", "none", *GUIDS]), ops))
+        ops = [operation(draw, draw.choice(names), n) for _ in range(draw.choice([0, 2, 3, 6, 12]))]
+        made.append(handler(draw, place, draw.choice(["root"] * 9 + ["none", *GUIDS]), ops))
     return made
 
 
@@ -118,13 +118,13 @@ def number(draw):
 
 
 def small(draw):
-    return draw.choice([0, 1, 1, 2, 3, "v0", f"v{draw.randrange(8)}"])
+    return draw.choice([0, 1, 1, 2, 3, "v0", "v0", "v0", f"v{draw.randrange(8)}"])
 
 
 def operation(draw, word, n):
     """A right operation."""
     cpu = draw.choice([0, 0, n - 1, draw.randrange(n), n, 65535] if draw.random() < 0.3 else [draw.randrange(n)])
-    into = f"v{draw.choice([0, 0, 1, 7])}"
+    into = f"v{draw.choice([0, 0, 0, 1, 7])}"
     register, width = draw.choice(REGISTERS), draw.choice([0, 1, 2, 4, 4, 8, 8, 9, 24])
     job = {"cpu": cpu, "procedure": draw.choice(["p0", "p0", "p1", "p9"]), "arg": number(draw), "into": into}
     keys = {
@@ -141,8 +141,8 @@ def operation(draw, word, n):
 
 
 def procedures(draw):
-    return [{"name": f"p{i}", "act": draw.choice(["get", "put"]), "reg": draw.choice(REGISTERS)}
-            for i in range(draw.choice([0, 1, 2]))]
+    return [{"name": f"p{i}", "act": draw.choice(["get", "put"]), "reg": draw.choice(REGISTERS + ["RAX", "RSP"] * 9)}
+            for i in range(draw.choice([0, 1, 2, 2]))]
 
 
 def causes(draw, n, visits):
