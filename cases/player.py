@@ -119,14 +119,10 @@ class Folder:
 
 def by_program(path, case, files):
     """The outcome of a build of the program."""
-    with Folder(files) as folder, open("/dev/full" if case.is_full else folder.path / ".report", "w+b") as report:
-        done = subprocess.run([path, *case.words], cwd=folder.path, stdout=report, stderr=subprocess.DEVNULL, timeout=SECONDS)
-        return Outcome(done.returncode, b"" if case.is_full else read_back(report), folder.after(case.words))
-
-
-def read_back(report):
-    report.seek(0)
-    return report.read()
+    with Folder(files) as folder, open("/dev/full", "wb") as full:
+        report = full if case.is_full else subprocess.PIPE
+        done = subprocess.run([path, *case.words], cwd=folder.path, stdout=report, stderr=subprocess.PIPE, timeout=SECONDS)
+        return Outcome(done.returncode, done.stdout or b"", folder.after(case.words))
 
 
 def by_reference(plays_all, case, files):

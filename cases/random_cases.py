@@ -249,7 +249,8 @@ def faulty_images(draw, data, kind, n):
 def faulty_schedule(draw, data):
     """A schedule with an item that is none, or with an actor that there isn't."""
     items = data.decode().split(" ")
-    bad = ["0*", "*", "all*", "al", "00", "01", "0*0", "0*01", "0*65536", "+1", "-1", "99", "65535", "0\r", "\0", "all*65535 " * 40]
+    bad = ["0*", "*", "all*", "al", "00", "01", "0*0", "0*01", "0*65536", "+1", "-1", "99", "65535", "0\r", "\0",
+           "all*65535 " * 40]
     items.insert(draw.randrange(len(items) + 1), draw.choice(bad))
     return " ".join(items).encode()
 

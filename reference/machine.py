@@ -8,7 +8,7 @@ from layout import layout_of, pool_area, relocate
 from pool import Pool
 from registers import after, enter, read_register, registers_of, write_register
 from serving import DEEPEST, INVALID, MOST_TOKENS, NOT_FOUND, NOT_READY, SUCCESS
-from serving import Registry, answer_of_walk, low_bytes, number_of, run_procedure
+from serving import Registry, alloc, answer_of_walk, free, low_bytes, number_of, run_procedure
 
 # The rule of each label, by its first word.
 RULES = {word: number for number, words in enumerate("""excepted
@@ -395,11 +395,11 @@ class ServingList:
             self.keep(keys, keys["value"], SUCCESS)
             return f"set:{keys['into']}:{keys['value']}"
         if word == "alloc":
-            place, status = self.pool.alloc(keys["size"])
+            place, status = alloc(self.pool, keys["size"])
             self.keep(keys, place, status)
             return f"alloc:{keys['size']}:{place}:{status}"
         if word == "free":
-            return f"free:{keys['place']}:{self.pool.free(keys['place'])}"
+            return f"free:{keys['place']}:{free(self.pool, keys['place'])}"
         if word == "register":
             serial = self.registry.register(keys["type"], keys["handler"])
             status = SUCCESS if serial else "OUT_OF_RESOURCES"

@@ -4,7 +4,7 @@ The walks over handler lists and their answers are after EDK II's SmiManage and 
 operations, their limits and their labels are the project's own.
 """
 from layout import pool_area
-from pool import Pool
+from pool import Pool, Refused
 from registers import own_width, read_register, write_register
 
 LOOK = ("look",)
@@ -62,6 +62,23 @@ def answer_of_walk(kind, statuses):
     if "SOURCE_QUIESCED" in statuses or (kind == "root" and SUCCESS in statuses):
         return SUCCESS
     return last
+
+
+def alloc(pool, size):
+    """The place that the pool gives and the status; 0 on a refusal."""
+    try:
+        return pool.alloc(size), SUCCESS
+    except Refused:
+        return 0, INVALID if size == 0 else "OUT_OF_RESOURCES"
+
+
+def free(pool, place):
+    """The status of a place that is given back."""
+    try:
+        pool.free(place)
+    except Refused:
+        return INVALID
+    return SUCCESS
 
 
 class Registry:
@@ -194,13 +211,13 @@ class Server:
 
     def alloc(self, size, into):
         yield INSIDE
-        place, status = self.pool.alloc(size)
+        place, status = alloc(self.pool, size)
         self.keep(into, place, status)
         self.say(f"alloc:{size}:{place}:{status}")
 
     def free(self, place):
         yield INSIDE
-        self.say(f"free:{place}:{self.pool.free(place)}")
+        self.say(f"free:{place}:{free(self.pool, place)}")
 
     def register(self, handler, kind, into):
         yield INSIDE
