@@ -1,0 +1,6 @@
+pub mod Partition
+pub mod Shelf
+pub mod Shelves
+pub mod State
+pub mod Taking
+pub mod Views

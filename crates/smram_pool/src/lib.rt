@@ -1,0 +1,10 @@
+// The memory that handlers ask for: blocks of six sizes and runs of whole pages of one range.
+#![tactic(auto)]
+
+mod error;
+mod flags;
+mod free_list;
+mod marks;
+mod taking;
+
+pub use error::PoolError;
