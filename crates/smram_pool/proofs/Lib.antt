@@ -1,3 +1,6 @@
 pub mod FlagLemmas
 pub mod MarkLemmas
 pub mod MeasureLemmas
+pub mod TakingLemmas
+pub mod WellFormedLemmas
+pub mod RangeLemmas

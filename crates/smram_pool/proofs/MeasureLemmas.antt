@@ -4,7 +4,7 @@ use Rattle.std.proofs.Math.ListN.{set}
 use Rattle.std.proofs.lemmas.List.{length-set}
 use Rattle.std.proofs.lemmas.Bool.{cases_Bool, eqb-true, and_parts}
 use Rattle.smram_pool.specs.State.{PoolState, Taken, block_size, put, found, without, put_page, put_pages, begins_run, run_taken, page_taken, halved, first_or_half, block_taken}
-use Rattle.smram_pool.specs.Partition.{Piece, block_pieces, pieces, IsMeasure, measured, IsClass, AreClasses, AreRuns}
+use Rattle.smram_pool.specs.Partition.{Piece, block_pieces, pieces, IsMeasure, measured}
 
 -- the pieces of places with an amount, a list of pages, and the free blocks
 abbrev pub sized : (ℕ → ℕ) → List (ℕ × ℕ) → List Piece
@@ -69,7 +69,7 @@ measure_none m is place =
     omega arith
 
 -- the first page of so many
-measure_pages : (m : ℕ → ℕ → ℕ) → IsMeasure m → (place count : ℕ) → m place (4096 * suc count) ≡ m place 4096 + m (place + 4096) (4096 * count)
+pub measure_pages : (m : ℕ → ℕ → ℕ) → IsMeasure m → (place count : ℕ) → m place (4096 * suc count) ≡ m place 4096 + m (place + 4096) (4096 * count)
 measure_pages m is place count =
     let length_is : 4096 * suc count ≡ 4096 + 4096 * count = omega arith in
     ap (m place) length_is ∙ is place 4096 (4096 * count)

@@ -1,3 +1,4 @@
+pub mod Inside
 pub mod Partition
 pub mod Shelf
 pub mod Shelves

@@ -37,19 +37,18 @@ measured m (piece ∷ rest) = m piece.0 piece.1 + measured m rest
 abbrev pub IsClass : ℕ → Type 0
 IsClass class = (0 < class) × (class ≤ 6)
 
--- each of them is
-abbrev pub AreClasses : List (ℕ × ℕ) → Type 0
-AreClasses [] = Unit {0}
-AreClasses (e ∷ es) = IsClass e.1 × AreClasses es
+-- each amount is so
+abbrev pub Each : (ℕ → Type 0) → List (ℕ × ℕ) → Type 0
+Each P [] = Unit {0}
+Each P (e ∷ es) = P e.1 × Each P es
 
--- each run has a page
-abbrev pub AreRuns : List (ℕ × ℕ) → Type 0
-AreRuns [] = Unit {0}
-AreRuns (e ∷ es) = (0 < e.1) × AreRuns es
+-- a run has a page
+abbrev pub IsCount : ℕ → Type 0
+IsCount count = 0 < count
 
 -- six lists, live blocks of the six classes, live runs of a page or more, and pieces that measure as much as the range, by every measure
 pub record IsWellFormed (s : PoolState) : Type 0 where
   pub lists : length s.blocks ≡ 6
-  pub classes : AreClasses s.live
-  pub runs : AreRuns s.runs
+  pub classes : Each IsClass s.live
+  pub counts : Each IsCount s.runs
   pub whole : (m : ℕ → ℕ → ℕ) → IsMeasure m → measured m (pieces s) ≡ m s.start (4096 * s.pages)

@@ -5,6 +5,8 @@ mod error;
 mod flags;
 mod free_list;
 mod marks;
+mod pool;
 mod taking;
 
 pub use error::PoolError;
+pub use pool::Pool;

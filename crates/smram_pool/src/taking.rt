@@ -84,10 +84,12 @@ pub fn take_block(lists: &mut [FreeList], free: &mut [bool], start: u64, halving
         return take_pages(free, start, 1);
     }
     let class = halvings as usize - 1;
-    if let Some(place) = lists[class].take_first() {
-        return Some(place);
+    match lists[class].take_first() {
+        Some(place) => Some(place),
+        None => {
+            let place = take_block(lists, free, start, halvings - 1)?;
+            lists[class].put_first(place + block_size(halvings));
+            Some(place)
+        }
     }
-    let place = take_block(lists, free, start, halvings - 1)?;
-    lists[class].put_first(place + block_size(halvings));
-    Some(place)
 }
