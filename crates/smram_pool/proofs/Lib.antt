@@ -4,3 +4,5 @@ pub mod MeasureLemmas
 pub mod TakingLemmas
 pub mod WellFormedLemmas
 pub mod RangeLemmas
+pub mod PoolLemmas
+pub mod Examples

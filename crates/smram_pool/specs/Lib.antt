@@ -4,4 +4,5 @@ pub mod Shelf
 pub mod Shelves
 pub mod State
 pub mod Taking
+pub mod Together
 pub mod Views

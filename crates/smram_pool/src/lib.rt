@@ -4,9 +4,11 @@
 mod error;
 mod flags;
 mod free_list;
+mod laws;
 mod marks;
 mod pool;
 mod taking;
 
 pub use error::PoolError;
+pub use laws::pool_laws;
 pub use pool::Pool;

@@ -1,11 +1,11 @@
-ghost use Rattle.std.specs.Prelude.{◌≡◌, ℕ, ◌+◌, ◌*◌, ◌%◌, ◌^◌, ◌<◌, ◌≤◌, [], IfOk, Some, length};
-ghost use Rattle.smram_pool.specs.State.{block_size};
+ghost use Rattle.std.specs.Prelude.{◌≡◌, ℕ, ◌+◌, ◌*◌, ◌%◌, ◌^◌, ◌<◌, ◌≤◌, true, IfOk, None, Some, replicate};
+ghost use Rattle.smram_pool.specs.Shelves.{empty_shelves};
 
 use crate::PoolError;
 use crate::flags::fill;
 use crate::free_list::FreeList;
 use crate::marks::{mark_at, page_of, unit_of};
-use crate::taking::{block_size, class_for, pages_for, take_block, take_pages};
+use crate::taking::{class_for, pages_for, put_in, take_block, take_pages};
 use smm_base::NoMemory;
 use std::alloc::Global;
 use std::marker::Model;
@@ -37,14 +37,41 @@ impl Model for Pool {
     ghost invariant = { HoldsTogether };
 }
 
-/// An empty list for the blocks of a page that was halved this many times.
-fn empty_list(alloc: Global, pages: usize, halvings: u32) -> Result<FreeList, NoMemory>
-    requires few { pages ≤ 2048 }
-    requires class { halvings ≤ 6 }
-    ensures { IfOk result (λ list. list ≡ record { places = []; room = pages * 2 ^ halvings; size = block_size halvings }) }
+/// The empty lists of a pool with this many pages.
+fn empty_lists(alloc: Global, pages: usize) -> Result<[FreeList; 6], NoMemory>
+    requires { pages ≤ 2048 }
+    ensures { IfOk result (λ lists. lists ≡ empty_shelves pages) }
 {
-    let size = block_size(halvings);
-    FreeList::new(alloc, pages * (4096 / size as usize), size)
+    Ok([
+        FreeList::new(alloc, pages * 2, 2048)?,
+        FreeList::new(alloc, pages * 4, 1024)?,
+        FreeList::new(alloc, pages * 8, 512)?,
+        FreeList::new(alloc, pages * 16, 256)?,
+        FreeList::new(alloc, pages * 32, 128)?,
+        FreeList::new(alloc, pages * 64, 64)?,
+    ])
+}
+
+/// This many places at which nothing is live.
+fn no_marks(alloc: Global, count: usize) -> Result<Vec<Option<u32>>, NoMemory>
+    ensures { IfOk result (λ marks. marks.items ≡ replicate count None) }
+{
+    let mut marks = Vec::with_capacity(alloc, count)?;
+    for _index in 0..count {
+        marks.push(None)?;
+    }
+    Ok(marks)
+}
+
+/// The flags of this many free pages.
+fn all_free(alloc: Global, count: usize) -> Result<Vec<bool>, NoMemory>
+    ensures { IfOk result (λ flags. flags.items ≡ replicate count true) }
+{
+    let mut flags = Vec::with_capacity(alloc, count)?;
+    for _index in 0..count {
+        flags.push(true)?;
+    }
+    Ok(flags)
 }
 
 impl Pool {
@@ -59,17 +86,10 @@ impl Pool {
         ensures { IfOk result (λ pool. pool ≡ fresh start pages) }
     {
         let count = pages as usize;
-        let lists = [
-            empty_list(alloc, count, 1)?,
-            empty_list(alloc, count, 2)?,
-            empty_list(alloc, count, 3)?,
-            empty_list(alloc, count, 4)?,
-            empty_list(alloc, count, 5)?,
-            empty_list(alloc, count, 6)?,
-        ];
-        let live = vec![in alloc; None; 64 * count]?;
-        let free = vec![in alloc; true; count]?;
-        let runs = vec![in alloc; None; count]?;
+        let lists = empty_lists(alloc, count)?;
+        let live = no_marks(alloc, 64 * count)?;
+        let free = all_free(alloc, count)?;
+        let runs = no_marks(alloc, count)?;
         Ok(Pool {
             start,
             lists,
@@ -212,7 +232,7 @@ impl Pool {
         ensures { self.new ≡ block_freed place class self.old }
     {
         self.live[((place - self.start) / 64) as usize] = None;
-        self.lists[class as usize - 1].put_first(place);
+        put_in(&mut self.lists, class as usize - 1, place);
     }
 
     /// Makes the pages of a live run free.

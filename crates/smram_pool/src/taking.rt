@@ -1,6 +1,6 @@
-ghost use Rattle.std.specs.Prelude.{◌≡◌, ◌+◌, ◌*◌, ◌%◌, ◌^◌, ◌<◌, ◌≤◌, IfSome, OnSome, length};
+ghost use Rattle.std.specs.Prelude.{◌≡◌, ◌+◌, ◌*◌, ◌%◌, ◌^◌, ◌<◌, ◌≤◌, IfSome, OnSome, length, slice_index_or, slice_set};
 ghost use Rattle.smram_pool.specs.Shelf.{IsBlock};
-ghost use Rattle.smram_pool.specs.Shelves.{lists_of, AreShelves};
+ghost use Rattle.smram_pool.specs.Shelves.{lists_of, no_shelf, with_front, AreShelves};
 ghost use Rattle.smram_pool.specs.State.{block_size, block_taken, class_for, pages_for, run_taken};
 ghost use Rattle.smram_pool.specs.Taking.{IsPage, place_taken, blocks_left, pages_left, run_place, run_left};
 ghost use Rattle.smram_pool.specs.Views.{free_from};
@@ -92,4 +92,14 @@ pub fn take_block(lists: &mut [FreeList], free: &mut [bool], start: u64, halving
             Some(place)
         }
     }
+}
+
+/// Puts a block to the front of one of the lists.
+pub fn put_in(lists: &mut [FreeList], index: usize, place: u64)
+    requires there { index < length lists.old }
+    requires room { length (slice_index_or lists.old index no_shelf).places < (slice_index_or lists.old index no_shelf).room }
+    requires block { IsBlock (slice_index_or lists.old index no_shelf).size place }
+    ensures { lists.new ≡ slice_set lists.old index (with_front place (slice_index_or lists.old index no_shelf)) }
+{
+    lists[index].put_first(place);
 }
