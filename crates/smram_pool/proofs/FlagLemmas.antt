@@ -59,7 +59,7 @@ first_here count (flag ∷ flags) b l = rw b refl
 shorter : (run count : ℕ) → run < count → eqb (run + 1) count ≡ false → run + 1 < count
 shorter run count h f =
     elim (cases_eq (run + 1) count) [
-      inl e ↦ absurd (eqb-false (run + 1) count f e)
+      | inl e ↦ absurd (eqb-false (run + 1) count f e)
       | inr n ↦ omega arith
     ]
 
@@ -73,15 +73,15 @@ scan_is count run i at (false ∷ flags) h e =
     ∙ ap (option_map (λ j. i + j)) (sym (skipped count run flags h))
 scan_is count run i at (true ∷ flags) h e =
     elim (cases_Bool (eqb (run + 1) count)) [
-      inl t ↦
-        let same : run + 1 ≡ count = eqb-true (run + 1) count t in
-        let begins : begin_free count (replicate run true ++ true ∷ flags) ≡ true =
+      | inl t ↦
+          let same : run + 1 ≡ count = eqb-true (run + 1) count t in
+          let begins : begin_free count (replicate run true ++ true ∷ flags) ≡ true =
           rw (more run flags, same) (long_enough count flags) in
-        rw t (ap Some (omega arith) ∙ sym (ap (option_map (λ j. i + j)) (first_here count (replicate run true ++ true ∷ flags) begins (rw (length-append (replicate run true) (true ∷ flags)) (omega arith)))))
+          rw t (ap Some (omega arith) ∙ sym (ap (option_map (λ j. i + j)) (first_here count (replicate run true ++ true ∷ flags) begins (rw (length-append (replicate run true) (true ∷ flags)) (omega arith)))))
       | inr f ↦
-        rw f
+          rw f
           (scan_is count (run + 1) i (at + 1) flags (shorter run count h f) (omega arith)
-           ∙ ap (λ fs. option_map (λ j. i + j) (first_run count fs)) (sym (more run flags)))
+          ∙ ap (λ fs. option_map (λ j. i + j) (first_run count fs)) (sym (more run flags)))
     ]
 
 map_none : (r : Option ℕ) → option_map (λ j. 0 + j) r ≡ r
@@ -125,7 +125,7 @@ pub within_run : (count : ℕ) (flags : List Bool) → IfSome (first_run count f
 within_run count [] = tt
 within_run count (flag ∷ flags) =
     elim (cases_Bool (begin_free count (flag ∷ flags))) [
-      inl t ↦ rw t (omega (arith, begin_within count (flag ∷ flags) t))
+      | inl t ↦ rw t (omega (arith, begin_within count (flag ∷ flags) t))
       | inr f ↦ rw f (within_next count (length flags) (first_run count flags) (within_run count flags))
     ]
 
@@ -174,16 +174,16 @@ run_found zero place (false ∷ flags) h = absurd (omega arith)
 run_found (suc count) place (false ∷ flags) h = run_found (suc count) (place + 4096) flags h ∙ taken_next_false (suc count) place flags (first_run (suc count) flags)
 run_found count place (true ∷ flags) h =
     elim (cases_Bool (begin_free count (true ∷ flags))) [
-      inl t ↦
-        let b : begins_run count place (place ∷ free_from (place + 4096) flags) ≡ true = begins_free count place (true ∷ flags) ∙ t in
-        let e : place ≡ place + 4096 * 0 = omega arith in
-        let d : drop count (place ∷ free_from (place + 4096) flags) ≡ free_from place (filled 0 count false (true ∷ flags)) = dropped count place (true ∷ flags) t in
-        rw (b, t) (ap Some (cc))
+      | inl t ↦
+          let b : begins_run count place (place ∷ free_from (place + 4096) flags) ≡ true = begins_free count place (true ∷ flags) ∙ t in
+          let e : place ≡ place + 4096 * 0 = omega arith in
+          let d : drop count (place ∷ free_from (place + 4096) flags) ≡ free_from place (filled 0 count false (true ∷ flags)) = dropped count place (true ∷ flags) t in
+          rw (b, t) (ap Some (cc))
       | inr f ↦
-        let b : begins_run count place (place ∷ free_from (place + 4096) flags) ≡ false = begins_free count place (true ∷ flags) ∙ f in
-        rw (b, f)
+          let b : begins_run count place (place ∷ free_from (place + 4096) flags) ≡ false = begins_free count place (true ∷ flags) ∙ f in
+          rw (b, f)
           (ap (option_map (λ (t : ℕ × List ℕ). (t.0, place ∷ t.1))) (run_found count (place + 4096) flags h)
-           ∙ taken_next_true count place flags (first_run count flags))
+          ∙ taken_next_true count place flags (first_run count flags))
     ]
 
 -- one step of a loop that fills
@@ -220,7 +220,7 @@ free_more place (suc i) (false ∷ flags) l f = rw (next_page place i) (free_mor
 free_more place (suc i) (true ∷ flags) l f =
     let late : ltb (place + 4096 * suc i) place ≡ false = le-ltb (place + 4096 * suc i) place (omega arith) in
     let behind : free_from (place + 4096) (set flags i true) ≡ put_page (place + 4096 * suc i) (free_from (place + 4096) flags) =
-      rw (next_page place i) (free_more (place + 4096) i flags (omega arith) f) in
+    rw (next_page place i) (free_more (place + 4096) i flags (omega arith) f) in
     rw late (ap (λ ps. place ∷ ps) behind)
 
 -- a page of a free flag is among the free ones
@@ -240,8 +240,8 @@ free_run (suc count) place i flags l b =
     let now : get_or flags i true ≡ false = subst (λ (n : ℕ). get_or flags n true ≡ false) (add-zero i) (b 0 (omega arith)) in
     let one : free_from place (set flags i true) ≡ put_page (place + 4096 * i) (free_from place flags) = free_more place i flags (omega arith) now in
     let rest : AreBusy (suc i) count (set flags i true) =
-      λ k h. get_or-set_other flags i (suc i + k) true true (λ (e : suc i + k ≡ i). omega arith)
-             ∙ subst (λ (n : ℕ). get_or flags n true ≡ false) (rest_at i k) (b (suc k) (omega arith)) in
+    λ k h. get_or-set_other flags i (suc i + k) true true (λ (e : suc i + k ≡ i). omega arith)
+    ∙ subst (λ (n : ℕ). get_or flags n true ≡ false) (rest_at i k) (b (suc k) (omega arith)) in
     let long : suc i + count ≤ length (set flags i true) = rw (length-set flags i true) (omega arith) in
     ap (free_from place) (filled_first i count true flags)
     ∙ free_run count place (suc i) (set flags i true) long rest

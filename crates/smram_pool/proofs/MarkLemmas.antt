@@ -35,7 +35,7 @@ marked-put place apart (suc i) amount (None ∷ ms) p l n =
 marked-put place apart (suc i) amount (Some a ∷ ms) p l n =
     let late : ltb (place + apart * suc i) place ≡ false = le-ltb (place + apart * suc i) place (omega arith) in
     let behind : marked (place + apart) apart (set ms i (Some amount)) ≡ put (place + apart * suc i) amount (marked (place + apart) apart ms) =
-      rw (next_place place apart i) (marked-put (place + apart) apart i amount ms p (omega arith) n) in
+    rw (next_place place apart i) (marked-put (place + apart) apart i amount ms p (omega arith) n) in
     rw late (ap (λ es. (place, a) ∷ es) behind)
 
 pub marked-found : (place apart i : ℕ) (ms : List (Option ℕ)) → 0 < apart → found (place + apart * i) (marked place apart ms) ≡ get_or ms i None
@@ -66,5 +66,5 @@ marked-without place apart (suc i) a (Some b ∷ ms) p s =
     let step : place + apart * suc i ≡ (place + apart) + apart * i = next_place place apart i in
     let other : eqb place (place + apart * suc i) ≡ false = ne_eqb place (place + apart * suc i) (λ (e : place ≡ place + apart * suc i). omega arith) in
     let behind : marked (place + apart) apart (set ms i None) ≡ without (place + apart * suc i) (marked (place + apart) apart ms) =
-      rw step (marked-without (place + apart) apart i a ms p s) in
+    rw step (marked-without (place + apart) apart i a ms p s) in
     rw other (ap (λ es. (place, b) ∷ es) behind)

@@ -26,15 +26,15 @@ pub measured_pieces : (m : ℕ → ℕ → ℕ) (s : PoolState) →
 measured_pieces m s =
     measured_append m (block_pieces 1 s.blocks) (sized block_size s.live ++ (page_pieces s.free_pages ++ sized (λ n. 4096 * n) s.runs))
     ∙ ap (λ (n : ℕ). measured m (block_pieces 1 s.blocks) + n)
-        (measured_append m (sized block_size s.live) (page_pieces s.free_pages ++ sized (λ n. 4096 * n) s.runs)
-         ∙ ap (λ (n : ℕ). measured m (sized block_size s.live) + n) (measured_append m (page_pieces s.free_pages) (sized (λ n. 4096 * n) s.runs)))
+    (measured_append m (sized block_size s.live) (page_pieces s.free_pages ++ sized (λ n. 4096 * n) s.runs)
+    ∙ ap (λ (n : ℕ). measured m (sized block_size s.live) + n) (measured_append m (page_pieces s.free_pages) (sized (λ n. 4096 * n) s.runs)))
 
 pub measured_put : (m : ℕ → ℕ → ℕ) (f : ℕ → ℕ) (place a : ℕ) (es : List (ℕ × ℕ)) →
     measured m (sized f (put place a es)) ≡ m place (f a) + measured m (sized f es)
 measured_put m f place a [] = refl
 measured_put m f place a (e ∷ es) =
     elim (cases_Bool (ltb place e.0)) [
-      inl t ↦ rw t refl
+      | inl t ↦ rw t refl
       | inr n ↦ rw n (omega (arith, measured_put m f place a es))
     ]
 
@@ -49,7 +49,7 @@ pub measured_without : (m : ℕ → ℕ → ℕ) (f : ℕ → ℕ) (place : ℕ)
 measured_without m f place [] = tt
 measured_without m f place (e ∷ es) =
     elim (cases_Bool (eqb e.0 place)) [
-      inl t ↦ rw (t, eqb-true e.0 place t) refl
+      | inl t ↦ rw (t, eqb-true e.0 place t) refl
       | inr n ↦ rw n (found_behind m f e place es (found place es) (measured_without m f place es))
     ]
 
@@ -57,7 +57,7 @@ measured_put_page : (m : ℕ → ℕ → ℕ) (place : ℕ) (ps : List ℕ) → 
 measured_put_page m place [] = refl
 measured_put_page m place (p ∷ ps) =
     elim (cases_Bool (ltb place p)) [
-      inl t ↦ rw t refl
+      | inl t ↦ rw t refl
       | inr n ↦ rw n (omega (arith, measured_put_page m place ps))
     ]
 
@@ -99,14 +99,14 @@ pub measured_taken : (m : ℕ → ℕ → ℕ) → IsMeasure m → (count : ℕ)
 measured_taken m is count [] = tt
 measured_taken m is count (p ∷ ps) =
     elim (cases_Bool (begins_run count p (p ∷ ps))) [
-      inl t ↦ rw t (measured_begin m is count p (p ∷ ps) t)
+      | inl t ↦ rw t (measured_begin m is count p (p ∷ ps) t)
       | inr n ↦
-        rw n
+          rw n
           (if_mapped (λ (r : ℕ × List ℕ). measured m (page_pieces ps) ≡ m r.0 (4096 * count) + measured m (page_pieces r.1))
-             (λ (r : ℕ × List ℕ). m p 4096 + measured m (page_pieces ps) ≡ m r.0 (4096 * count) + measured m (page_pieces r.1))
-             (λ (r : ℕ × List ℕ). (r.0, p ∷ r.1)) (run_taken count ps)
-             (λ (r : ℕ × List ℕ) (h : measured m (page_pieces ps) ≡ m r.0 (4096 * count) + measured m (page_pieces r.1)). omega arith)
-             (measured_taken m is count ps))
+          (λ (r : ℕ × List ℕ). m p 4096 + measured m (page_pieces ps) ≡ m r.0 (4096 * count) + measured m (page_pieces r.1))
+          (λ (r : ℕ × List ℕ). (r.0, p ∷ r.1)) (run_taken count ps)
+          (λ (r : ℕ × List ℕ) (h : measured m (page_pieces ps) ≡ m r.0 (4096 * count) + measured m (page_pieces r.1)). omega arith)
+          (measured_taken m is count ps))
     ]
 
 -- a block put to the front of a list, and the first of a list taken away
@@ -117,10 +117,13 @@ measured_block_put m class zero place (ps ∷ rest) l = rw (add-zero class) refl
 measured_block_put m class (suc i) place (ps ∷ rest) l =
     let same : class + suc i ≡ suc class + i = omega arith in
     let size : m place (block_size (class + suc i)) ≡ m place (block_size (suc class + i)) = ap (λ (k : ℕ). m place (block_size k)) same in
-    omega
-      (arith, size, measured_block_put m (suc class) i place rest (omega arith),
-        measured_append m (class_pieces class ps) (block_pieces (suc class) rest),
-        measured_append m (class_pieces class ps) (block_pieces (suc class) (set rest i (place ∷ get_or rest i []))))
+    omega (
+      arith,
+      size,
+      measured_block_put m (suc class) i place rest (omega arith),
+      measured_append m (class_pieces class ps) (block_pieces (suc class) rest),
+      measured_append m (class_pieces class ps) (block_pieces (suc class) (set rest i (place ∷ get_or rest i []))),
+    )
 
 pub measured_block_first : (m : ℕ → ℕ → ℕ) (class i place : ℕ) (bs : List ℕ) (blocks : List (List ℕ)) → get_or blocks i [] ≡ place ∷ bs →
     measured m (block_pieces class blocks) ≡ m place (block_size (class + i)) + measured m (block_pieces class (set blocks i bs))
@@ -129,10 +132,13 @@ measured_block_first m class zero place bs (ps ∷ rest) e = rw (e, add-zero cla
 measured_block_first m class (suc i) place bs (ps ∷ rest) e =
     let same : class + suc i ≡ suc class + i = omega arith in
     let size : m place (block_size (class + suc i)) ≡ m place (block_size (suc class + i)) = ap (λ (k : ℕ). m place (block_size k)) same in
-    omega
-      (arith, size, measured_block_first m (suc class) i place bs rest e,
-        measured_append m (class_pieces class ps) (block_pieces (suc class) rest),
-        measured_append m (class_pieces class ps) (block_pieces (suc class) (set rest i bs)))
+    omega (
+      arith,
+      size,
+      measured_block_first m (suc class) i place bs rest e,
+      measured_append m (class_pieces class ps) (block_pieces (suc class) rest),
+      measured_append m (class_pieces class ps) (block_pieces (suc class) (set rest i bs)),
+    )
 
 -- a page halved once more
 pub half : (h : ℕ) → h < 6 → block_size h ≡ block_size (suc h) + block_size (suc h)
@@ -171,7 +177,7 @@ split_first : (m : ℕ → ℕ → ℕ) → IsMeasure m → (h : ℕ) (blocks : 
     IfSome (first_or_half h list blocks ps larger) (IsSplit m (suc h) (free_measure m blocks ps) (length blocks))
 split_first m is h blocks ps [] larger six l e s =
     if_mapped (IsSplit m h (free_measure m blocks ps) (length blocks)) (IsSplit m (suc h) (free_measure m blocks ps) (length blocks)) (halved h) larger
-      (split_half m is h (free_measure m blocks ps) (length blocks) six l) s
+    (split_half m is h (free_measure m blocks ps) (length blocks) six l) s
 split_first m is h blocks ps (b ∷ bs) larger six l e s =
     let one : 1 + h ≡ suc h = omega arith in
     let class_is : m b (block_size (1 + h)) ≡ m b (block_size (suc h)) = ap (λ (k : ℕ). m b (block_size k)) one in
@@ -190,4 +196,4 @@ pub split_block : (m : ℕ → ℕ → ℕ) → IsMeasure m → (h : ℕ) (block
 split_block m is zero blocks ps six l = split_page m blocks ps
 split_block m is (suc h) blocks ps six l =
     split_first m is h blocks ps (get_or blocks h []) (block_taken h blocks ps) (omega arith) (omega arith) refl
-      (split_block m is h blocks ps (omega arith) (omega arith))
+    (split_block m is h blocks ps (omega arith) (omega arith))

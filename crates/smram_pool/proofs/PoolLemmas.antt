@@ -34,15 +34,15 @@ found_at place start apart amount (None ∷ marks) e =
     (suc behind.0, next_at place start apart amount behind.0 None marks behind.1)
 found_at place start apart amount (Some a ∷ marks) e =
     elim (cases_Bool (eqb start place)) [
-      inl t ↦
-        let here : Some a ≡ Some amount = rw t at e in
-        let same : start ≡ place = eqb-true start place t in
-        let at_first : place ≡ start + apart * 0 = grind arith in
-        (0, record { at = at_first; within = omega arith; mark = here })
+      | inl t ↦
+          let here : Some a ≡ Some amount = rw t at e in
+          let same : start ≡ place = eqb-true start place t in
+          let at_first : place ≡ start + apart * 0 = grind arith in
+          (0, record { at = at_first; within = omega arith; mark = here })
       | inr f ↦
-        let later : found place (marked (start + apart) apart marks) ≡ Some amount = rw f at e in
-        let behind = found_at place (start + apart) apart amount marks later in
-        (suc behind.0, next_at place start apart amount behind.0 (Some a) marks behind.1)
+          let later : found place (marked (start + apart) apart marks) ≡ Some amount = rw f at e in
+          let behind = found_at place (start + apart) apart amount marks later in
+          (suc behind.0, next_at place start apart amount behind.0 (Some a) marks behind.1)
     ]
 
 -- the index of a place that is a multiple of 64, or a page's, behind the start
@@ -60,8 +60,8 @@ pub record IsClassTaken (class start place : ℕ) (lists lists_after : List Shel
   pub above : start ≤ place
   pub unit : (place - start) / 64 < length live
   pub state :
-    state_at start lists_after (set live ((place - start) / 64) (Some class)) free_after runs
-    ≡ (block_allocated class (state_at start lists live free runs) (block_taken class (lists_of lists) (free_from start free))).1
+      state_at start lists_after (set live ((place - start) / 64) (Some class)) free_after runs
+      ≡ (block_allocated class (state_at start lists live free runs) (block_taken class (lists_of lists) (free_from start free))).1
   pub holds : Holds start lists_after (set live ((place - start) / 64) (Some class)) free_after runs
 
 -- what a call that took a block says
@@ -89,11 +89,11 @@ class_taken_by class start place lists lists_after live free free_after runs (So
     let vacant : found place (marked start 64 live) ≡ None = subst (λ (p : ℕ). found p (marked start 64 live) ≡ None) same (taken_vacant s class t c h.well_formed e) in
     let unmarked : get_or live i None ≡ None = sym (marked-found start 64 i live (omega arith)) ∙ subst (λ (p : ℕ). found p (marked start 64 live) ≡ None) at vacant in
     let live_is : marked start 64 (set live i (Some class)) ≡ put t.place class (marked start 64 live) =
-      marked-put start 64 i class live (omega arith) unit unmarked ∙ ap (λ (p : ℕ). put p class (marked start 64 live)) (sym at ∙ sym same) in
+    marked-put start 64 i class live (omega arith) unit unmarked ∙ ap (λ (p : ℕ). put p class (marked start 64 live)) (sym at ∙ sym same) in
     let after : PoolState = state_at start lists_after (set live i (Some class)) free_after runs in
     let wanted : PoolState = record s { blocks = t.blocks; live = put t.place class s.live; free_pages = t.free_pages } in
     let state_is : after ≡ wanted =
-      λ k. record { start = start; pages = g.length_is k; blocks = g.blocks k; live = live_is k; free_pages = g.pages k; runs = marked start 4096 runs } in
+    λ k. record { start = start; pages = g.length_is k; blocks = g.blocks k; live = live_is k; free_pages = g.pages k; runs = marked start 4096 runs } in
     let allocated_is : (block_allocated class s (block_taken class (lists_of lists) (free_from start free))).1 ≡ wanted = ap (λ (o : Option Taken). (block_allocated class s o).1) e in
     let state : after ≡ (block_allocated class s (block_taken class (lists_of lists) (free_from start free))).1 = state_is ∙ sym allocated_is in
     record {
@@ -101,15 +101,15 @@ class_taken_by class start place lists lists_after live free free_after runs (So
       unit = unit;
       state = state;
       holds =
-        record {
-          begins = h.begins;
-          low = h.low;
-          few = omega (arith, g.length_is, h.few);
-          units = length-set live i (Some class) ∙ h.units ∙ ap (λ (n : ℕ). 64 * n) (sym g.length_is);
-          runs_are = h.runs_are ∙ sym g.length_is;
-          shelves = subst (λ (n : ℕ). AreShelves n lists_after) (sym g.length_is) g.shelves;
-          well_formed = subst IsWellFormed (sym state) (keeps_class class s c h.well_formed);
-        };
+          record {
+            begins = h.begins;
+            low = h.low;
+            few = omega (arith, g.length_is, h.few);
+            units = length-set live i (Some class) ∙ h.units ∙ ap (λ (n : ℕ). 64 * n) (sym g.length_is);
+            runs_are = h.runs_are ∙ sym g.length_is;
+            shelves = subst (λ (n : ℕ). AreShelves n lists_after) (sym g.length_is) g.shelves;
+            well_formed = subst IsWellFormed (sym state) (keeps_class class s c h.well_formed);
+          };
     }
 
 pub class_taken : (class start place : ℕ) (lists lists_after : List Shelf) (live : List (Option ℕ)) (free free_after : List Bool) (runs : List (Option ℕ)) →
@@ -123,8 +123,8 @@ pub record IsRunTaken (count start place : ℕ) (lists : List Shelf) (live : Lis
   pub above : start ≤ place
   pub page : (place - start) / 4096 < length runs
   pub state :
-    state_at start lists live free_after (set runs ((place - start) / 4096) (Some count))
-    ≡ (run_allocated count (state_at start lists live free runs) (run_taken count (free_from start free))).1
+      state_at start lists live free_after (set runs ((place - start) / 4096) (Some count))
+      ≡ (run_allocated count (state_at start lists live free runs) (run_taken count (free_from start free))).1
   pub holds : Holds start lists live free_after (set runs ((place - start) / 4096) (Some count))
 
 -- what a call that took a run says
@@ -142,8 +142,8 @@ run_taken_by count start place lists live free free_after runs (Some r) e c h g 
     let s : PoolState = state_at start lists live free runs in
     let same : r.0 ≡ place = let p : Some place ≡ Some r.0 = g.place_is in cc in
     let i : ℕ = (place - start) / 4096 in
-    let where_is : place ≡ start + 4096 * g.within.0 = g.within.1.0 in
-    let fits : g.within.0 + count ≤ length free = g.within.1.1 in
+    let where_is : place ≡ start + 4096 * g.within.0 = g.within.1 in
+    let fits : g.within.0 + count ≤ length free = g.within.2 in
     let index : i ≡ g.within.0 = page_index start place g.within.0 where_is in
     let above : start ≤ place = omega arith in
     let at : place ≡ start + 4096 * i = omega arith in
@@ -151,11 +151,11 @@ run_taken_by count start place lists live free free_after runs (Some r) e c h g 
     let vacant : found place (marked start 4096 runs) ≡ None = subst (λ (p : ℕ). found p (marked start 4096 runs) ≡ None) same (run_vacant s count r c h.well_formed e) in
     let unmarked : get_or runs i None ≡ None = sym (marked-found start 4096 i runs (omega arith)) ∙ subst (λ (p : ℕ). found p (marked start 4096 runs) ≡ None) at vacant in
     let runs_is : marked start 4096 (set runs i (Some count)) ≡ put r.0 count (marked start 4096 runs) =
-      marked-put start 4096 i count runs (omega arith) page unmarked ∙ ap (λ (p : ℕ). put p count (marked start 4096 runs)) (sym at ∙ sym same) in
+    marked-put start 4096 i count runs (omega arith) page unmarked ∙ ap (λ (p : ℕ). put p count (marked start 4096 runs)) (sym at ∙ sym same) in
     let after : PoolState = state_at start lists live free_after (set runs i (Some count)) in
     let wanted : PoolState = record s { free_pages = r.1; runs = put r.0 count s.runs } in
     let state_is : after ≡ wanted =
-      λ k. record { start = start; pages = g.length_is k; blocks = lists_of lists; live = marked start 64 live; free_pages = g.pages k; runs = runs_is k } in
+    λ k. record { start = start; pages = g.length_is k; blocks = lists_of lists; live = marked start 64 live; free_pages = g.pages k; runs = runs_is k } in
     let allocated_is : (run_allocated count s (run_taken count (free_from start free))).1 ≡ wanted = ap (λ (o : Option (ℕ × List ℕ)). (run_allocated count s o).1) e in
     let state : after ≡ (run_allocated count s (run_taken count (free_from start free))).1 = state_is ∙ sym allocated_is in
     record {
@@ -163,15 +163,15 @@ run_taken_by count start place lists live free free_after runs (Some r) e c h g 
       page = page;
       state = state;
       holds =
-        record {
-          begins = h.begins;
-          low = h.low;
-          few = omega (arith, g.length_is, h.few);
-          units = h.units ∙ ap (λ (n : ℕ). 64 * n) (sym g.length_is);
-          runs_are = length-set runs i (Some count) ∙ h.runs_are ∙ sym g.length_is;
-          shelves = subst (λ (n : ℕ). AreShelves n lists) (sym g.length_is) h.shelves;
-          well_formed = subst IsWellFormed (sym state) (keeps_count count s c h.well_formed);
-        };
+          record {
+            begins = h.begins;
+            low = h.low;
+            few = omega (arith, g.length_is, h.few);
+            units = h.units ∙ ap (λ (n : ℕ). 64 * n) (sym g.length_is);
+            runs_are = length-set runs i (Some count) ∙ h.runs_are ∙ sym g.length_is;
+            shelves = subst (λ (n : ℕ). AreShelves n lists) (sym g.length_is) h.shelves;
+            well_formed = subst IsWellFormed (sym state) (keeps_count count s c h.well_formed);
+          };
     }
 
 pub run_taken_is : (count start place : ℕ) (lists : List Shelf) (live : List (Option ℕ)) (free free_after : List Bool) (runs : List (Option ℕ)) →
@@ -186,14 +186,14 @@ shelf_stays : (pages h k : ℕ) (shelves : List Shelf) (shelf : Shelf) → AreSh
     ((get_or (set shelves k shelf) h no_shelf).room ≡ pages * 2 ^ (h + 1)) × ((get_or (set shelves k shelf) h no_shelf).size ≡ block_size (h + 1))
 shelf_stays pages h k shelves shelf a l m r z =
     elim (cases_eq h k) [
-      inl e ↦
-        let there : k < length shelves = omega (arith, a.six) in
-        let here : get_or (set shelves k shelf) h no_shelf ≡ shelf = ap (λ (n : ℕ). get_or (set shelves k shelf) n no_shelf) e ∙ get_or-set_same shelves k shelf no_shelf there in
-        let then : get_or shelves k no_shelf ≡ get_or shelves h no_shelf = ap (λ (n : ℕ). get_or shelves n no_shelf) (sym e) in
-        (ap (λ (s : Shelf). s.room) here ∙ r ∙ ap (λ (s : Shelf). s.room) then ∙ a.room h m, ap (λ (s : Shelf). s.size) here ∙ z ∙ ap (λ (s : Shelf). s.size) then ∙ a.size h m)
+      | inl e ↦
+          let there : k < length shelves = omega (arith, a.six) in
+          let here : get_or (set shelves k shelf) h no_shelf ≡ shelf = ap (λ (n : ℕ). get_or (set shelves k shelf) n no_shelf) e ∙ get_or-set_same shelves k shelf no_shelf there in
+          let then : get_or shelves k no_shelf ≡ get_or shelves h no_shelf = ap (λ (n : ℕ). get_or shelves n no_shelf) (sym e) in
+          (ap (λ (s : Shelf). s.room) here ∙ r ∙ ap (λ (s : Shelf). s.room) then ∙ a.room h m, ap (λ (s : Shelf). s.size) here ∙ z ∙ ap (λ (s : Shelf). s.size) then ∙ a.size h m)
       | inr n ↦
-        let other : get_or (set shelves k shelf) h no_shelf ≡ get_or shelves h no_shelf = get_or-set_other shelves k h shelf no_shelf n in
-        (ap (λ (s : Shelf). s.room) other ∙ a.room h m, ap (λ (s : Shelf). s.size) other ∙ a.size h m)
+          let other : get_or (set shelves k shelf) h no_shelf ≡ get_or shelves h no_shelf = get_or-set_other shelves k h shelf no_shelf n in
+          (ap (λ (s : Shelf). s.room) other ∙ a.room h m, ap (λ (s : Shelf). s.size) other ∙ a.size h m)
     ]
 
 shelves_set : (pages k : ℕ) (shelves : List Shelf) (shelf : Shelf) → AreShelves pages shelves → k < 6 →
@@ -214,8 +214,8 @@ pub record IsBlockFreed (place class start : ℕ) (lists : List Shelf) (live : L
   pub room : length (get_or lists (class - 1) no_shelf).places < (get_or lists (class - 1) no_shelf).room
   pub block : IsBlock (get_or lists (class - 1) no_shelf).size place
   pub state :
-    state_at start (set lists (class - 1) (with_front place (get_or lists (class - 1) no_shelf))) (set live ((place - start) / 64) None) free runs
-    ≡ block_freed place class (state_at start lists live free runs)
+      state_at start (set lists (class - 1) (with_front place (get_or lists (class - 1) no_shelf))) (set live ((place - start) / 64) None) free runs
+      ≡ block_freed place class (state_at start lists live free runs)
   pub holds : Holds start (set lists (class - 1) (with_front place (get_or lists (class - 1) no_shelf))) (set live ((place - start) / 64) None) free runs
 
 block_end : (start place size pages : ℕ) → start < 2 ^ 63 → pages ≤ 2048 → place + size ≤ start + 4096 * pages → place + size ≤ 9223372036863164416
@@ -249,12 +249,12 @@ block_freed_is place class start lists live free runs h e =
     let inside = piece_within s place (block_size class) h.well_formed (some_size class class_is.1) (live_piece s place class e) in
     let block : IsBlock (block_size class) place = (aligned_at start place i h.begins at, block_end start place (block_size class) (length free) h.low h.few inside.1) in
     let blocks_is : lists_of (set lists k (with_front place shelf)) ≡ set (lists_of lists) k (place ∷ get_or (lists_of lists) k []) =
-      lists_set lists k (with_front place shelf) ∙ ap (λ (ps : List ℕ). set (lists_of lists) k (place ∷ ps)) (sym list_is) in
+    lists_set lists k (with_front place shelf) ∙ ap (λ (ps : List ℕ). set (lists_of lists) k (place ∷ ps)) (sym list_is) in
     let live_is : marked start 64 (set live ((place - start) / 64) None) ≡ without place (marked start 64 live) =
-      ap (λ (n : ℕ). marked start 64 (set live n None)) index ∙ marked-without start 64 i class live (omega arith) where_is.1.mark
-      ∙ ap (λ (p : ℕ). without p (marked start 64 live)) (sym at) in
+    ap (λ (n : ℕ). marked start 64 (set live n None)) index ∙ marked-without start 64 i class live (omega arith) where_is.1.mark
+    ∙ ap (λ (p : ℕ). without p (marked start 64 live)) (sym at) in
     let state : state_at start (set lists k (with_front place shelf)) (set live ((place - start) / 64) None) free runs ≡ block_freed place class s =
-      λ j. record { start = start; pages = length free; blocks = blocks_is j; live = live_is j; free_pages = free_from start free; runs = marked start 4096 runs } in
+    λ j. record { start = start; pages = length free; blocks = blocks_is j; live = live_is j; free_pages = free_from start free; runs = marked start 4096 runs } in
     record {
       above = above;
       unit = unit;
@@ -264,15 +264,15 @@ block_freed_is place class start lists live free runs h e =
       block = subst (λ (n : ℕ). IsBlock n place) (sym size_is) block;
       state = state;
       holds =
-        record {
-          begins = h.begins;
-          low = h.low;
-          few = h.few;
-          units = length-set live ((place - start) / 64) None ∙ h.units;
-          runs_are = h.runs_are;
-          shelves = shelves_set (length free) k lists (with_front place shelf) h.shelves six refl refl;
-          well_formed = subst IsWellFormed (sym state) (keeps_block_freed place class s e h.well_formed);
-        };
+          record {
+            begins = h.begins;
+            low = h.low;
+            few = h.few;
+            units = length-set live ((place - start) / 64) None ∙ h.units;
+            runs_are = h.runs_are;
+            shelves = shelves_set (length free) k lists (with_front place shelf) h.shelves six refl refl;
+            well_formed = subst IsWellFormed (sym state) (keeps_block_freed place class s e h.well_formed);
+          };
     }
 
 -- the state after a run was freed
@@ -281,8 +281,8 @@ pub record IsRunFreed (place count start : ℕ) (lists : List Shelf) (live : Lis
   pub page : (place - start) / 4096 < length runs
   pub fits : (place - start) / 4096 + count ≤ length free
   pub state :
-    state_at start lists live (filled ((place - start) / 4096) count true free) (set runs ((place - start) / 4096) None)
-    ≡ run_freed place count (state_at start lists live free runs)
+      state_at start lists live (filled ((place - start) / 4096) count true free) (set runs ((place - start) / 4096) None)
+      ≡ run_freed place count (state_at start lists live free runs)
   pub holds : Holds start lists live (filled ((place - start) / 4096) count true free) (set runs ((place - start) / 4096) None)
 
 run_end : (start place i count pages : ℕ) → place ≡ start + 4096 * i → place + 4096 * count ≤ start + 4096 * pages → i + count ≤ pages
@@ -304,27 +304,27 @@ run_freed_is place count start lists live free runs h e =
     let busy : AreBusy i count free = λ k l. run_busy s place count i k free h.well_formed refl e at fits l in
     let mark : get_or runs i None ≡ Some count = ap (λ (n : ℕ). get_or runs n None) index ∙ where_is.1.mark in
     let pages_is : free_from start (filled i count true free) ≡ put_pages count place (free_from start free) =
-      free_run count start i free fits busy ∙ ap (λ (p : ℕ). put_pages count p (free_from start free)) (sym at) in
+    free_run count start i free fits busy ∙ ap (λ (p : ℕ). put_pages count p (free_from start free)) (sym at) in
     let runs_is : marked start 4096 (set runs i None) ≡ without place (marked start 4096 runs) =
-      marked-without start 4096 i count runs (omega arith) mark ∙ ap (λ (p : ℕ). without p (marked start 4096 runs)) (sym at) in
+    marked-without start 4096 i count runs (omega arith) mark ∙ ap (λ (p : ℕ). without p (marked start 4096 runs)) (sym at) in
     let length_is : length (filled i count true free) ≡ length free = filled_length i count true free in
     let state : state_at start lists live (filled i count true free) (set runs i None) ≡ run_freed place count s =
-      λ j. record { start = start; pages = length_is j; blocks = lists_of lists; live = marked start 64 live; free_pages = pages_is j; runs = runs_is j } in
+    λ j. record { start = start; pages = length_is j; blocks = lists_of lists; live = marked start 64 live; free_pages = pages_is j; runs = runs_is j } in
     record {
       above = above;
       page = page;
       fits = fits;
       state = state;
       holds =
-        record {
-          begins = h.begins;
-          low = h.low;
-          few = omega (arith, length_is, h.few);
-          units = h.units ∙ ap (λ (n : ℕ). 64 * n) (sym length_is);
-          runs_are = length-set runs i None ∙ h.runs_are ∙ sym length_is;
-          shelves = subst (λ (n : ℕ). AreShelves n lists) (sym length_is) h.shelves;
-          well_formed = subst IsWellFormed (sym state) (keeps_run_freed place count s e h.well_formed);
-        };
+          record {
+            begins = h.begins;
+            low = h.low;
+            few = omega (arith, length_is, h.few);
+            units = h.units ∙ ap (λ (n : ℕ). 64 * n) (sym length_is);
+            runs_are = length-set runs i None ∙ h.runs_are ∙ sym length_is;
+            shelves = subst (λ (n : ℕ). AreShelves n lists) (sym length_is) h.shelves;
+            well_formed = subst IsWellFormed (sym state) (keeps_run_freed place count s e h.well_formed);
+          };
     }
 
 -- a new pool
@@ -373,17 +373,17 @@ new_is start pages lists live free runs begins low few lists_are live_are free_a
     let pages_is : free_from start free ≡ pages_from pages start = ap (free_from start) free_are ∙ free_all start pages in
     let blocks_is : lists_of lists ≡ [] ∷ [] ∷ [] ∷ [] ∷ [] ∷ [] ∷ [] = ap lists_of lists_are in
     let state : state_at start lists live free runs ≡ fresh start pages =
-      λ j. record { start = start; pages = count j; blocks = blocks_is j; live = live_is j; free_pages = pages_is j; runs = runs_is j } in
+    λ j. record { start = start; pages = count j; blocks = blocks_is j; live = live_is j; free_pages = pages_is j; runs = runs_is j } in
     record {
       state = state;
       holds =
-        record {
-          begins = begins;
-          low = low;
-          few = omega arith;
-          units = units ∙ ap (λ (n : ℕ). 64 * n) (sym count);
-          runs_are = marks ∙ sym count;
-          shelves = subst (λ (n : ℕ). AreShelves n lists) (sym count) (subst (λ (ls : List Shelf). AreShelves pages ls) (sym lists_are) (empty_are pages));
-          well_formed = subst IsWellFormed (sym state) (fresh_is start pages);
-        };
+          record {
+            begins = begins;
+            low = low;
+            few = omega arith;
+            units = units ∙ ap (λ (n : ℕ). 64 * n) (sym count);
+            runs_are = marks ∙ sym count;
+            shelves = subst (λ (n : ℕ). AreShelves n lists) (sym count) (subst (λ (ls : List Shelf). AreShelves pages ls) (sym lists_are) (empty_are pages));
+            well_formed = subst IsWellFormed (sym state) (fresh_is start pages);
+          };
     }

@@ -37,41 +37,41 @@ covers_behind byte place length a =
 covers_is : (byte : ℕ) → IsMeasure (covers byte)
 covers_is byte place lower upper =
     elim (cases_lt byte place) [
-      inl a ↦ omega (arith, covers_before byte place (lower + upper) a, covers_before byte place lower a, covers_before byte (place + lower) upper (omega arith))
+      | inl a ↦ omega (arith, covers_before byte place (lower + upper) a, covers_before byte place lower a, covers_before byte (place + lower) upper (omega arith))
       | inr b ↦
-        elim (cases_lt byte (place + lower)) [
-          inl c ↦ omega (arith, covers_inside byte place (lower + upper) b (omega arith), covers_inside byte place lower b c, covers_before byte (place + lower) upper c)
-          | inr d ↦
-            elim (cases_lt byte (place + lower + upper)) [
-              inl e ↦ omega (arith, covers_inside byte place (lower + upper) b (omega arith), covers_behind byte place lower d, covers_inside byte (place + lower) upper d e)
-              | inr f ↦ omega (arith, covers_behind byte place (lower + upper) (omega arith), covers_behind byte place lower d, covers_behind byte (place + lower) upper f)
-            ]
-        ]
+          elim (cases_lt byte (place + lower)) [
+            | inl c ↦ omega (arith, covers_inside byte place (lower + upper) b (omega arith), covers_inside byte place lower b c, covers_before byte (place + lower) upper c)
+            | inr d ↦
+                elim (cases_lt byte (place + lower + upper)) [
+                  | inl e ↦ omega (arith, covers_inside byte place (lower + upper) b (omega arith), covers_behind byte place lower d, covers_inside byte (place + lower) upper d e)
+                  | inr f ↦ omega (arith, covers_behind byte place (lower + upper) (omega arith), covers_behind byte place lower d, covers_behind byte (place + lower) upper f)
+                ]
+          ]
     ]
 
 -- a byte is covered at most once, and only by a piece that holds it
 covers_once : (byte place length : ℕ) → covers byte place length ≤ 1
 covers_once byte place length =
     elim (cases_lt byte place) [
-      inl a ↦ omega (arith, covers_before byte place length a)
+      | inl a ↦ omega (arith, covers_before byte place length a)
       | inr b ↦
-        elim (cases_lt byte (place + length)) [
-          inl c ↦ omega (arith, covers_inside byte place length b c)
-          | inr d ↦ omega (arith, covers_behind byte place length d)
-        ]
+          elim (cases_lt byte (place + length)) [
+            | inl c ↦ omega (arith, covers_inside byte place length b c)
+            | inr d ↦ omega (arith, covers_behind byte place length d)
+          ]
     ]
 
 covers_low : (byte place length : ℕ) → 1 ≤ covers byte place length → place ≤ byte
 covers_low byte place length h =
     elim (cases_lt byte place) [
-      inl a ↦ absurd (omega (arith, covers_before byte place length a))
+      | inl a ↦ absurd (omega (arith, covers_before byte place length a))
       | inr b ↦ b
     ]
 
 covers_high : (byte place length : ℕ) → 1 ≤ covers byte place length → byte < place + length
 covers_high byte place length h =
     elim (cases_lt byte (place + length)) [
-      inl a ↦ a
+      | inl a ↦ a
       | inr b ↦ absurd (omega (arith, covers_behind byte place length b))
     ]
 
@@ -87,16 +87,21 @@ pub piece_within : (s : PoolState) (place length : ℕ) → IsWellFormed s → 0
 piece_within s place length w n h =
     let last : ℕ = place + length - 1 in
     let first_in : 1 ≤ covers place s.start (4096 * s.pages) =
-      omega (arith, h (covers place) (covers_is place), w.whole (covers place) (covers_is place), covers_inside place place length (omega arith) (omega arith)) in
+    omega (arith, h (covers place) (covers_is place), w.whole (covers place) (covers_is place), covers_inside place place length (omega arith) (omega arith)) in
     let last_in : 1 ≤ covers last s.start (4096 * s.pages) =
-      omega (arith, h (covers last) (covers_is last), w.whole (covers last) (covers_is last), covers_inside last place length (omega arith) (omega arith)) in
+    omega (arith, h (covers last) (covers_is last), w.whole (covers last) (covers_is last), covers_inside last place length (omega arith) (omega arith)) in
     (covers_low place s.start (4096 * s.pages) first_in, omega (arith, covers_high last s.start (4096 * s.pages) last_in))
 
 pub pieces_apart : (s : PoolState) (byte p n q k : ℕ) → IsWellFormed s → p ≤ byte → byte < p + n → q ≤ byte → byte < q + k → ArePieces s p n q k → ⊥
 pieces_apart s byte p n q k w a b c d h =
-    omega
-      (arith, h (covers byte) (covers_is byte), w.whole (covers byte) (covers_is byte), covers_inside byte p n a b, covers_inside byte q k c d,
-        covers_once byte s.start (4096 * s.pages))
+    omega (
+      arith,
+      h (covers byte) (covers_is byte),
+      w.whole (covers byte) (covers_is byte),
+      covers_inside byte p n a b,
+      covers_inside byte q k c d,
+      covers_once byte s.start (4096 * s.pages),
+    )
 
 -- a block of any class has bytes
 pub some_size : (class : ℕ) → class ≤ 6 → 0 < block_size class
@@ -121,13 +126,13 @@ pub split_is : (s : PoolState) (class : ℕ) (t : Taken) → IsClass class → I
     (m : ℕ → ℕ → ℕ) → IsMeasure m → IsSplit m class (free_measure m s.blocks s.free_pages) (length s.blocks) t
 split_is s class t c w e m is =
     at_found (IsSplit m class (free_measure m s.blocks s.free_pages) (length s.blocks)) (block_taken class s.blocks s.free_pages) t e
-      (split_block m is class s.blocks s.free_pages c.1 (omega (arith, w.lists, c.1)))
+    (split_block m is class s.blocks s.free_pages c.1 (omega (arith, w.lists, c.1)))
 
 pub run_is : (s : PoolState) (count : ℕ) (r : ℕ × List ℕ) → run_taken count s.free_pages ≡ Some r →
     (m : ℕ → ℕ → ℕ) → IsMeasure m → measured m (page_pieces s.free_pages) ≡ m r.0 (4096 * count) + measured m (page_pieces r.1)
 run_is s count r e m is =
     at_found (λ (r : ℕ × List ℕ). measured m (page_pieces s.free_pages) ≡ m r.0 (4096 * count) + measured m (page_pieces r.1)) (run_taken count s.free_pages) r e
-      (measured_taken m is count s.free_pages)
+    (measured_taken m is count s.free_pages)
 
 -- a block that is taken lies within the range, and isn't live
 pub taken_within : (s : PoolState) (class : ℕ) (t : Taken) → IsClass class → IsWellFormed s → block_taken class s.blocks s.free_pages ≡ Some t →
@@ -142,10 +147,10 @@ vacant_by s class t c w e None f = refl
 vacant_by s class t c w e (Some k) f =
     let is_class : IsClass k = found_is IsClass t.place k s.live f w.classes in
     let both : ArePieces s t.place (block_size class) t.place (block_size k) =
-      λ m is. let split = split_is s class t c w e m is in omega (arith, split.whole, measured_pieces m s, measured_found m block_size t.place k s.live f) in
+    λ m is. let split = split_is s class t c w e m is in omega (arith, split.whole, measured_pieces m s, measured_found m block_size t.place k s.live f) in
     absurd
-      (pieces_apart s t.place t.place (block_size class) t.place (block_size k) w (omega arith) (omega (arith, some_size class c.1)) (omega arith)
-         (omega (arith, some_size k is_class.1)) both)
+    (pieces_apart s t.place t.place (block_size class) t.place (block_size k) w (omega arith) (omega (arith, some_size class c.1)) (omega arith)
+    (omega (arith, some_size k is_class.1)) both)
 
 pub taken_vacant : (s : PoolState) (class : ℕ) (t : Taken) → IsClass class → IsWellFormed s → block_taken class s.blocks s.free_pages ≡ Some t → found t.place s.live ≡ None
 taken_vacant s class t c w e = vacant_by s class t c w e (found t.place s.live) refl
@@ -156,7 +161,7 @@ run_vacant_by s count r c w e None f = refl
 run_vacant_by s count r c w e (Some k) f =
     let some : IsCount k = found_is IsCount r.0 k s.runs f w.counts in
     let both : ArePieces s r.0 (4096 * count) r.0 (4096 * k) =
-      λ m is. omega (arith, run_is s count r e m is, measured_pieces m s, measured_found m (λ n. 4096 * n) r.0 k s.runs f) in
+    λ m is. omega (arith, run_is s count r e m is, measured_pieces m s, measured_found m (λ n. 4096 * n) r.0 k s.runs f) in
     absurd (pieces_apart s r.0 r.0 (4096 * count) r.0 (4096 * k) w (omega arith) (omega arith) (omega arith) (omega (arith, some)) both)
 
 pub run_vacant : (s : PoolState) (count : ℕ) (r : ℕ × List ℕ) → 0 < count → IsWellFormed s → run_taken count s.free_pages ≡ Some r → found r.0 s.runs ≡ None
@@ -188,14 +193,14 @@ pub run_busy : (s : PoolState) (place count i k : ℕ) (flags : List Bool) → I
     place ≡ s.start + 4096 * i → i + count ≤ length flags → k < count → get_or flags (i + k) true ≡ false
 run_busy s place count i k flags w fs e p l h =
     elim (cases_Bool (get_or flags (i + k) true)) [
-      inr f ↦ f
+      | inr f ↦ f
       | inl t ↦
-        let page : ℕ = s.start + 4096 * (i + k) in
-        let both : ArePieces s place (4096 * count) page 4096 =
+          let page : ℕ = s.start + 4096 * (i + k) in
+          let both : ArePieces s place (4096 * count) page 4096 =
           λ m is.
-            let pages : measured m (page_pieces s.free_pages) ≡ measured m (page_pieces (free_from s.start flags)) = ap (λ (ps : List ℕ). measured m (page_pieces ps)) fs in
-            omega (arith, pages, measured_pieces m s, measured_found m (λ n. 4096 * n) place count s.runs e, flag_measured m s.start (i + k) flags (omega arith) t) in
-        absurd (pieces_apart s page place (4096 * count) page 4096 w (omega arith) (omega arith) (omega arith) (omega arith) both)
+          let pages : measured m (page_pieces s.free_pages) ≡ measured m (page_pieces (free_from s.start flags)) = ap (λ (ps : List ℕ). measured m (page_pieces ps)) fs in
+          omega (arith, pages, measured_pieces m s, measured_found m (λ n. 4096 * n) place count s.runs e, flag_measured m s.start (i + k) flags (omega arith) t) in
+          absurd (pieces_apart s page place (4096 * count) page 4096 w (omega arith) (omega arith) (omega arith) (omega arith) both)
     ]
 
 -- how many bytes the blocks of one list have
@@ -246,7 +251,7 @@ room_for s place class w e l =
     let one : 1 + class ≡ suc class = omega arith in
     let same : list * block_size (1 + class) ≡ list * block_size (suc class) = ap (λ (k : ℕ). list * block_size k) one in
     room_by class list s.pages l
-      (omega (arith, same, whole_length s w, found_length place (suc class) s.live e, list_measured 1 class s.blocks, measured_pieces length_measure s))
+    (omega (arith, same, whole_length s w, found_length place (suc class) s.live e, list_measured 1 class s.blocks, measured_pieces length_measure s))
 
 -- each byte of the range lies in one piece
 counted : (byte : ℕ) (ps : List Piece) → count_by (is_within byte) ps ≡ measured (covers byte) ps

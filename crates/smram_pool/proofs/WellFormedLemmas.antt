@@ -11,7 +11,7 @@ each_put : (P : ℕ → Type 0) (place amount : ℕ) (es : List (ℕ × ℕ)) �
 each_put P place amount [] p h = (p, tt)
 each_put P place amount (e ∷ es) p h =
     elim (cases_Bool (ltb place e.0)) [
-      inl t ↦ rw t (p, h)
+      | inl t ↦ rw t (p, h)
       | inr n ↦ rw n (h.0, each_put P place amount es p h.1)
     ]
 
@@ -19,7 +19,7 @@ each_without : (P : ℕ → Type 0) (place : ℕ) (es : List (ℕ × ℕ)) → E
 each_without P place [] h = tt
 each_without P place (e ∷ es) h =
     elim (cases_Bool (eqb e.0 place)) [
-      inl t ↦ rw t h.1
+      | inl t ↦ rw t h.1
       | inr n ↦ rw n (h.0, each_without P place es h.1)
     ]
 
@@ -27,7 +27,7 @@ each_found : (P : ℕ → Type 0) (place : ℕ) (es : List (ℕ × ℕ)) → Eac
 each_found P place [] h = tt
 each_found P place (e ∷ es) h =
     elim (cases_Bool (eqb e.0 place)) [
-      inl t ↦ rw t h.0
+      | inl t ↦ rw t h.0
       | inr n ↦ rw n (each_found P place es h.1)
     ]
 
@@ -62,8 +62,8 @@ keeps_block class s (Some t) c w h =
       classes = each_put IsClass t.place class s.live c w.classes;
       counts = w.counts;
       whole = λ m is.
-        let split = h m is in
-        omega (arith, w.whole m is, split.whole, measured_pieces m s, measured_pieces m ((block_allocated class s (Some t)).1), measured_put m block_size t.place class s.live);
+          let split = h m is in
+          omega (arith, w.whole m is, split.whole, measured_pieces m s, measured_pieces m ((block_allocated class s (Some t)).1), measured_put m block_size t.place class s.live);
     }
 
 keeps_run : (count : ℕ) (s : PoolState) (o : Option (ℕ × List ℕ)) → 0 < count → IsWellFormed s →
@@ -76,7 +76,7 @@ keeps_run count s (Some r) c w h =
       classes = w.classes;
       counts = each_put IsCount r.0 count s.runs c w.counts;
       whole = λ m is.
-        omega (arith, w.whole m is, h m is, measured_pieces m s, measured_pieces m ((run_allocated count s (Some r)).1), measured_put m (λ n. 4096 * n) r.0 count s.runs);
+          omega (arith, w.whole m is, h m is, measured_pieces m s, measured_pieces m ((run_allocated count s (Some r)).1), measured_put m (λ n. 4096 * n) r.0 count s.runs);
     }
 
 pub keeps_block_freed : (place class : ℕ) (s : PoolState) → found place s.live ≡ Some class → IsWellFormed s → IsWellFormed (block_freed place class s)
@@ -88,10 +88,16 @@ keeps_block_freed place class s e w =
       classes = each_without IsClass place s.live w.classes;
       counts = w.counts;
       whole = λ m is.
-        let size : m place (block_size (1 + (class - 1))) ≡ m place (block_size class) = ap (λ (k : ℕ). m place (block_size k)) one in
-        omega
-          (arith, size, w.whole m is, measured_pieces m s, measured_pieces m (block_freed place class s), measured_found m block_size place class s.live e,
-            measured_block_put m 1 (class - 1) place s.blocks (omega (arith, w.lists)));
+          let size : m place (block_size (1 + (class - 1))) ≡ m place (block_size class) = ap (λ (k : ℕ). m place (block_size k)) one in
+          omega (
+            arith,
+            size,
+            w.whole m is,
+            measured_pieces m s,
+            measured_pieces m (block_freed place class s),
+            measured_found m block_size place class s.live e,
+            measured_block_put m 1 (class - 1) place s.blocks (omega (arith, w.lists)),
+          );
     }
 
 pub keeps_run_freed : (place count : ℕ) (s : PoolState) → found place s.runs ≡ Some count → IsWellFormed s → IsWellFormed (run_freed place count s)
@@ -101,9 +107,14 @@ keeps_run_freed place count s e w =
       classes = w.classes;
       counts = each_without IsCount place s.runs w.counts;
       whole = λ m is.
-        omega
-          (arith, w.whole m is, measured_pieces m s, measured_pieces m (run_freed place count s), measured_found m (λ n. 4096 * n) place count s.runs e,
-            measured_put_pages m is count place s.free_pages);
+          omega (
+            arith,
+            w.whole m is,
+            measured_pieces m s,
+            measured_pieces m (run_freed place count s),
+            measured_found m (λ n. 4096 * n) place count s.runs e,
+            measured_put_pages m is count place s.free_pages,
+          );
     }
 
 -- each class that a request asks for is one of the six
@@ -117,15 +128,15 @@ class_of n a b = (a, b)
 pub class_for_is : (size : ℕ) → IsClass (class_for size)
 class_for_is size =
     is_class_by (leb size 64) 6 _ (omega arith, omega arith)
-      (is_class_by (leb size 128) 5 _ (omega arith, omega arith)
-         (is_class_by (leb size 256) 4 _ (omega arith, omega arith)
-            (is_class_by (leb size 512) 3 _ (omega arith, omega arith)
-               (is_class_by (leb size 1024) 2 1 (omega arith, omega arith) (omega arith, omega arith)))))
+    (is_class_by (leb size 128) 5 _ (omega arith, omega arith)
+    (is_class_by (leb size 256) 4 _ (omega arith, omega arith)
+    (is_class_by (leb size 512) 3 _ (omega arith, omega arith)
+    (is_class_by (leb size 1024) 2 1 (omega arith, omega arith) (omega arith, omega arith)))))
 
 pub keeps_class : (class : ℕ) (s : PoolState) → IsClass class → IsWellFormed s → IsWellFormed ((block_allocated class s (block_taken class s.blocks s.free_pages)).1)
 keeps_class class s c w =
     keeps_block class s (block_taken class s.blocks s.free_pages) c w
-      (λ m is. split_block m is class s.blocks s.free_pages c.1 (omega (arith, w.lists, c.1)))
+    (λ m is. split_block m is class s.blocks s.free_pages c.1 (omega (arith, w.lists, c.1)))
 
 pub keeps_count : (count : ℕ) (s : PoolState) → 0 < count → IsWellFormed s → IsWellFormed ((run_allocated count s (run_taken count s.free_pages)).1)
 keeps_count count s c w = keeps_run count s (run_taken count s.free_pages) c w (λ m is. measured_taken m is count s.free_pages)
@@ -133,27 +144,27 @@ keeps_count count s c w = keeps_run count s (run_taken count s.free_pages) c w (
 some_count : (count : ℕ) → eqb count 0 ≡ false → 0 < count
 some_count count n =
     elim (cases_lt 0 count) [
-      inl p ↦ p
+      | inl p ↦ p
       | inr z ↦ absurd (eqb-false count 0 n (omega arith))
     ]
 
 pub keeps_pages_allocated : (count : ℕ) (s : PoolState) → IsWellFormed s → IsWellFormed ((pages_allocated count s).1)
 keeps_pages_allocated count s w =
     elim (cases_Bool (eqb count 0)) [
-      inl t ↦ rw t w
+      | inl t ↦ rw t w
       | inr n ↦ rw n (keeps_count count s (some_count count n) w)
     ]
 
 pub keeps_allocated : (size : ℕ) (s : PoolState) → IsWellFormed s → IsWellFormed ((allocated size s).1)
 keeps_allocated size s w =
     elim (cases_Bool (eqb size 0)) [
-      inl t ↦ rw t w
+      | inl t ↦ rw t w
       | inr n ↦
-        rw n
+          rw n
           (elim (cases_Bool (leb size 2048)) [
-             inl few ↦ rw few (keeps_class (class_for size) s (class_for_is size) w)
-             | inr many ↦ rw many (keeps_pages_allocated (pages_for size) s w)
-           ])
+            | inl few ↦ rw few (keeps_class (class_for size) s (class_for_is size) w)
+            | inr many ↦ rw many (keeps_pages_allocated (pages_for size) s w)
+          ])
     ]
 
 keeps_freed_at : (place : ℕ) (s : PoolState) (o : Option ℕ) → found place s.runs ≡ o → IsWellFormed s → IsWellFormed ((freed_at place s o).1)
@@ -171,7 +182,7 @@ keeps_freed_run : (place count : ℕ) (s : PoolState) (o : Option ℕ) → found
 keeps_freed_run place count s None e w = w
 keeps_freed_run place count s (Some n) e w =
     elim (cases_Bool (eqb n count)) [
-      inl t ↦ rw t (let same : found place s.runs ≡ Some count = e ∙ ap Some (eqb-true n count t) in keeps_run_freed place count s same w)
+      | inl t ↦ rw t (let same : found place s.runs ≡ Some count = e ∙ ap Some (eqb-true n count t) in keeps_run_freed place count s same w)
       | inr f ↦ rw f w
     ]
 

@@ -120,8 +120,8 @@ pages_allocated count s = cond (count == 0) (Err Zero, s) (run_allocated count s
 abbrev pub allocated : ℕ → PoolState → Answered ℕ
 allocated size s =
     cond (size == 0) (Err Zero, s)
-      (cond (nat_le size 2048) (block_allocated (class_for size) s (block_taken (class_for size) s.blocks s.free_pages))
-        (pages_allocated (pages_for size) s))
+    (cond (nat_le size 2048) (block_allocated (class_for size) s (block_taken (class_for size) s.blocks s.free_pages))
+    (pages_allocated (pages_for size) s))
 
 -- a live block goes to the front of its class's list
 abbrev pub block_freed : ℕ → ℕ → PoolState → PoolState

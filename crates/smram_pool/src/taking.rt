@@ -66,7 +66,12 @@ pub fn take_pages(free: &mut [bool], start: u64, count: usize) -> Option<u64>
 }
 
 /// Takes a block of a class: the first of its list, or the lower half of a larger one.
-pub fn take_block(lists: &mut [FreeList], free: &mut [bool], start: u64, halvings: u32) -> Option<u64>
+pub fn take_block(
+    lists: &mut [FreeList],
+    free: &mut [bool],
+    start: u64,
+    halvings: u32,
+) -> Option<u64>
     requires class { halvings ≤ 6 }
     requires shelves { AreShelves (length free.old) lists.old }
     requires begins { start % 4096 ≡ 0 }

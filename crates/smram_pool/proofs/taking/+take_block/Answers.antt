@@ -56,7 +56,7 @@ returns-in_err-place-in-None-clause-place t c =
     let empty : list ≡ [] = first_none list (sym c.in-None.ensures.first) in
     let nothing : get_or (lists_of lists) i [] ≡ [] = list_is ∙ empty in
     let same : lists_of (set lists i c.take_first.new.self) ≡ lists_of lists =
-      empty_stays lists i c.take_first.new.self nothing (ap (λ (s : Shelf). s.places) c.in-None.ensures.rest ∙ ap rest empty) in
+    empty_stays lists i c.take_first.new.self nothing (ap (λ (s : Shelf). s.places) c.in-None.ensures.rest ∙ ap rest empty) in
     let larger : Option Taken = block_taken i (lists_of lists) ps in
     let half : option_map (halved i) larger ≡ block_taken c.args.halvings (lists_of lists) ps = sym (taken_half c.args.halvings (lists_of lists) ps (omega arith) nothing) in
     c.from_residual.ensures ∙ c.in_err-place-in-None.ensures.place ∙ ap (λ (b : List (List ℕ)). place_taken (block_taken i b ps)) same ∙ place_half i larger ∙ ap place_taken half
@@ -72,7 +72,7 @@ returns-in_err-place-in-None-clause-blocks t c =
     let empty : list ≡ [] = first_none list (sym c.in-None.ensures.first) in
     let nothing : get_or (lists_of lists) i [] ≡ [] = list_is ∙ empty in
     let same : lists_of (set lists i c.take_first.new.self) ≡ lists_of lists =
-      empty_stays lists i c.take_first.new.self nothing (ap (λ (s : Shelf). s.places) c.in-None.ensures.rest ∙ ap rest empty) in
+    empty_stays lists i c.take_first.new.self nothing (ap (λ (s : Shelf). s.places) c.in-None.ensures.rest ∙ ap rest empty) in
     let larger : Option Taken = block_taken i (lists_of lists) ps in
     let half : option_map (halved i) larger ≡ block_taken c.args.halvings (lists_of lists) ps = sym (taken_half c.args.halvings (lists_of lists) ps (omega arith) nothing) in
     let nowhere : None ≡ place_taken larger = c.in_err-place-in-None.ensures.place ∙ ap (λ (b : List (List ℕ)). place_taken (block_taken i b ps)) same in
@@ -89,7 +89,7 @@ returns-in_err-place-in-None-clause-pages t c =
     let empty : list ≡ [] = first_none list (sym c.in-None.ensures.first) in
     let nothing : get_or (lists_of lists) i [] ≡ [] = list_is ∙ empty in
     let same : lists_of (set lists i c.take_first.new.self) ≡ lists_of lists =
-      empty_stays lists i c.take_first.new.self nothing (ap (λ (s : Shelf). s.places) c.in-None.ensures.rest ∙ ap rest empty) in
+    empty_stays lists i c.take_first.new.self nothing (ap (λ (s : Shelf). s.places) c.in-None.ensures.rest ∙ ap rest empty) in
     let larger : Option Taken = block_taken i (lists_of lists) ps in
     let half : option_map (halved i) larger ≡ block_taken c.args.halvings (lists_of lists) ps = sym (taken_half c.args.halvings (lists_of lists) ps (omega arith) nothing) in
     c.in_err-place-in-None.ensures.pages ∙ ap (λ (b : List (List ℕ)). pages_left ps (block_taken i b ps)) same ∙ pages_half i ps larger ∙ ap (pages_left ps) half
@@ -105,7 +105,7 @@ put_first-requires-clause-room t c =
     let empty : list ≡ [] = first_none list (sym c.in-None.ensures.first) in
     let nothing : get_or (lists_of lists) i [] ≡ [] = list_is ∙ empty in
     let same : lists_of (set lists i c.take_first.new.self) ≡ lists_of lists =
-      empty_stays lists i c.take_first.new.self nothing (ap (λ (s : Shelf). s.places) c.in-None.ensures.rest ∙ ap rest empty) in
+    empty_stays lists i c.take_first.new.self nothing (ap (λ (s : Shelf). s.places) c.in-None.ensures.rest ∙ ap rest empty) in
     let larger : Option Taken = block_taken i (lists_of lists) ps in
     let half : option_map (halved i) larger ≡ block_taken c.args.halvings (lists_of lists) ps = sym (taken_half c.args.halvings (lists_of lists) ps (omega arith) nothing) in
     let after : List Shelf = c.take_block.new.lists in
@@ -113,9 +113,9 @@ put_first-requires-clause-room t c =
     let there_after : i < length after = omega (arith, c.in_ok-place-in-None.ensures.shelves.six) in
     let shelf_is : shelf ≡ get_or after i no_shelf = get_or_default after i c.index-lists-class-in-None.result no_shelf there_after in
     let blocks_are : lists_of after ≡ blocks_left (lists_of lists) larger =
-      c.in_ok-place-in-None.ensures.blocks ∙ ap (λ (b : List (List ℕ)). blocks_left b (block_taken i b ps)) same in
+    c.in_ok-place-in-None.ensures.blocks ∙ ap (λ (b : List (List ℕ)). blocks_left b (block_taken i b ps)) same in
     let places_are : shelf.places ≡ [] =
-      sym (list_at after i c.index-lists-class-in-None.result there_after) ∙ ap (λ (b : List (List ℕ)). get_or b i []) blocks_are ∙ untouched i i (lists_of lists) ps (omega arith) ∙ nothing in
+    sym (list_at after i c.index-lists-class-in-None.result there_after) ∙ ap (λ (b : List (List ℕ)). get_or b i []) blocks_are ∙ untouched i i (lists_of lists) ps (omega arith) ∙ nothing in
     let one_more : suc i ≡ c.args.halvings = omega arith in
     let size_one : i + 1 ≡ c.args.halvings = omega arith in
     let room_is : shelf.room ≡ length c.args.free.now * 2 ^ (i + 1) = ap (λ (s : Shelf). s.room) shelf_is ∙ c.in_ok-place-in-None.ensures.shelves.room i (omega arith) in
@@ -133,7 +133,7 @@ put_first-requires-clause-block t c =
     let empty : list ≡ [] = first_none list (sym c.in-None.ensures.first) in
     let nothing : get_or (lists_of lists) i [] ≡ [] = list_is ∙ empty in
     let same : lists_of (set lists i c.take_first.new.self) ≡ lists_of lists =
-      empty_stays lists i c.take_first.new.self nothing (ap (λ (s : Shelf). s.places) c.in-None.ensures.rest ∙ ap rest empty) in
+    empty_stays lists i c.take_first.new.self nothing (ap (λ (s : Shelf). s.places) c.in-None.ensures.rest ∙ ap rest empty) in
     let larger : Option Taken = block_taken i (lists_of lists) ps in
     let half : option_map (halved i) larger ≡ block_taken c.args.halvings (lists_of lists) ps = sym (taken_half c.args.halvings (lists_of lists) ps (omega arith) nothing) in
     let after : List Shelf = c.take_block.new.lists in
@@ -141,9 +141,9 @@ put_first-requires-clause-block t c =
     let there_after : i < length after = omega (arith, c.in_ok-place-in-None.ensures.shelves.six) in
     let shelf_is : shelf ≡ get_or after i no_shelf = get_or_default after i c.index-lists-class-in-None.result no_shelf there_after in
     let blocks_are : lists_of after ≡ blocks_left (lists_of lists) larger =
-      c.in_ok-place-in-None.ensures.blocks ∙ ap (λ (b : List (List ℕ)). blocks_left b (block_taken i b ps)) same in
+    c.in_ok-place-in-None.ensures.blocks ∙ ap (λ (b : List (List ℕ)). blocks_left b (block_taken i b ps)) same in
     let places_are : shelf.places ≡ [] =
-      sym (list_at after i c.index-lists-class-in-None.result there_after) ∙ ap (λ (b : List (List ℕ)). get_or b i []) blocks_are ∙ untouched i i (lists_of lists) ps (omega arith) ∙ nothing in
+    sym (list_at after i c.index-lists-class-in-None.result there_after) ∙ ap (λ (b : List (List ℕ)). get_or b i []) blocks_are ∙ untouched i i (lists_of lists) ps (omega arith) ∙ nothing in
     let one_more : suc i ≡ c.args.halvings = omega arith in
     let size_one : i + 1 ≡ c.args.halvings = omega arith in
     let size_is : shelf.size ≡ block_size (suc i) = ap (λ (s : Shelf). s.size) shelf_is ∙ c.in_ok-place-in-None.ensures.shelves.size i (omega arith) ∙ ap block_size (size_one ∙ sym one_more) in
@@ -162,7 +162,7 @@ returns-in_ok-place-in-None-clause-place t c =
     let empty : list ≡ [] = first_none list (sym c.in-None.ensures.first) in
     let nothing : get_or (lists_of lists) i [] ≡ [] = list_is ∙ empty in
     let same : lists_of (set lists i c.take_first.new.self) ≡ lists_of lists =
-      empty_stays lists i c.take_first.new.self nothing (ap (λ (s : Shelf). s.places) c.in-None.ensures.rest ∙ ap rest empty) in
+    empty_stays lists i c.take_first.new.self nothing (ap (λ (s : Shelf). s.places) c.in-None.ensures.rest ∙ ap rest empty) in
     let larger : Option Taken = block_taken i (lists_of lists) ps in
     let half : option_map (halved i) larger ≡ block_taken c.args.halvings (lists_of lists) ps = sym (taken_half c.args.halvings (lists_of lists) ps (omega arith) nothing) in
     let after : List Shelf = c.take_block.new.lists in
@@ -170,9 +170,9 @@ returns-in_ok-place-in-None-clause-place t c =
     let there_after : i < length after = omega (arith, c.in_ok-place-in-None.ensures.shelves.six) in
     let shelf_is : shelf ≡ get_or after i no_shelf = get_or_default after i c.index-lists-class-in-None.result no_shelf there_after in
     let blocks_are : lists_of after ≡ blocks_left (lists_of lists) larger =
-      c.in_ok-place-in-None.ensures.blocks ∙ ap (λ (b : List (List ℕ)). blocks_left b (block_taken i b ps)) same in
+    c.in_ok-place-in-None.ensures.blocks ∙ ap (λ (b : List (List ℕ)). blocks_left b (block_taken i b ps)) same in
     let places_are : shelf.places ≡ [] =
-      sym (list_at after i c.index-lists-class-in-None.result there_after) ∙ ap (λ (b : List (List ℕ)). get_or b i []) blocks_are ∙ untouched i i (lists_of lists) ps (omega arith) ∙ nothing in
+    sym (list_at after i c.index-lists-class-in-None.result there_after) ∙ ap (λ (b : List (List ℕ)). get_or b i []) blocks_are ∙ untouched i i (lists_of lists) ps (omega arith) ∙ nothing in
     let one_more : suc i ≡ c.args.halvings = omega arith in
     let size_one : i + 1 ≡ c.args.halvings = omega arith in
     let place_is : Some c.in_ok-place-in-None.place ≡ place_taken larger = c.in_ok-place-in-None.ensures.place ∙ ap (λ (b : List (List ℕ)). place_taken (block_taken i b ps)) same in
@@ -189,7 +189,7 @@ returns-in_ok-place-in-None-clause-blocks t c =
     let empty : list ≡ [] = first_none list (sym c.in-None.ensures.first) in
     let nothing : get_or (lists_of lists) i [] ≡ [] = list_is ∙ empty in
     let same : lists_of (set lists i c.take_first.new.self) ≡ lists_of lists =
-      empty_stays lists i c.take_first.new.self nothing (ap (λ (s : Shelf). s.places) c.in-None.ensures.rest ∙ ap rest empty) in
+    empty_stays lists i c.take_first.new.self nothing (ap (λ (s : Shelf). s.places) c.in-None.ensures.rest ∙ ap rest empty) in
     let larger : Option Taken = block_taken i (lists_of lists) ps in
     let half : option_map (halved i) larger ≡ block_taken c.args.halvings (lists_of lists) ps = sym (taken_half c.args.halvings (lists_of lists) ps (omega arith) nothing) in
     let after : List Shelf = c.take_block.new.lists in
@@ -197,16 +197,16 @@ returns-in_ok-place-in-None-clause-blocks t c =
     let there_after : i < length after = omega (arith, c.in_ok-place-in-None.ensures.shelves.six) in
     let shelf_is : shelf ≡ get_or after i no_shelf = get_or_default after i c.index-lists-class-in-None.result no_shelf there_after in
     let blocks_are : lists_of after ≡ blocks_left (lists_of lists) larger =
-      c.in_ok-place-in-None.ensures.blocks ∙ ap (λ (b : List (List ℕ)). blocks_left b (block_taken i b ps)) same in
+    c.in_ok-place-in-None.ensures.blocks ∙ ap (λ (b : List (List ℕ)). blocks_left b (block_taken i b ps)) same in
     let places_are : shelf.places ≡ [] =
-      sym (list_at after i c.index-lists-class-in-None.result there_after) ∙ ap (λ (b : List (List ℕ)). get_or b i []) blocks_are ∙ untouched i i (lists_of lists) ps (omega arith) ∙ nothing in
+    sym (list_at after i c.index-lists-class-in-None.result there_after) ∙ ap (λ (b : List (List ℕ)). get_or b i []) blocks_are ∙ untouched i i (lists_of lists) ps (omega arith) ∙ nothing in
     let one_more : suc i ≡ c.args.halvings = omega arith in
     let size_one : i + 1 ≡ c.args.halvings = omega arith in
     let place_is : Some c.in_ok-place-in-None.place ≡ place_taken larger = c.in_ok-place-in-None.ensures.place ∙ ap (λ (b : List (List ℕ)). place_taken (block_taken i b ps)) same in
     let gave : c.block_size.result ≡ block_size (suc i) = c.block_size.ensures ∙ ap block_size (sym one_more) in
     let list_after : get_or (blocks_left (lists_of lists) larger) i [] ≡ shelf.places = ap (λ (b : List (List ℕ)). get_or b i []) (sym blocks_are) ∙ list_at after i c.index-lists-class-in-None.result there_after in
     let front : c.put_first.new.self.places ≡ (c.in_ok-place-in-None.place + block_size (suc i)) ∷ get_or (blocks_left (lists_of lists) larger) i [] =
-      ap (λ (s : Shelf). s.places) c.put_first.ensures ∙ ap (λ (n : ℕ). (c.in_ok-place-in-None.place + n) ∷ shelf.places) gave ∙ ap (λ (ps : List ℕ). (c.in_ok-place-in-None.place + block_size (suc i)) ∷ ps) (sym list_after) in
+    ap (λ (s : Shelf). s.places) c.put_first.ensures ∙ ap (λ (n : ℕ). (c.in_ok-place-in-None.place + n) ∷ shelf.places) gave ∙ ap (λ (ps : List ℕ). (c.in_ok-place-in-None.place + block_size (suc i)) ∷ ps) (sym list_after) in
     lists_set after i c.put_first.new.self
     ∙ ap (λ (b : List (List ℕ)). set b i c.put_first.new.self.places) blocks_are
     ∙ ap (set (blocks_left (lists_of lists) larger) i) front
@@ -224,7 +224,7 @@ returns-in_ok-place-in-None-clause-pages t c =
     let empty : list ≡ [] = first_none list (sym c.in-None.ensures.first) in
     let nothing : get_or (lists_of lists) i [] ≡ [] = list_is ∙ empty in
     let same : lists_of (set lists i c.take_first.new.self) ≡ lists_of lists =
-      empty_stays lists i c.take_first.new.self nothing (ap (λ (s : Shelf). s.places) c.in-None.ensures.rest ∙ ap rest empty) in
+    empty_stays lists i c.take_first.new.self nothing (ap (λ (s : Shelf). s.places) c.in-None.ensures.rest ∙ ap rest empty) in
     let larger : Option Taken = block_taken i (lists_of lists) ps in
     let half : option_map (halved i) larger ≡ block_taken c.args.halvings (lists_of lists) ps = sym (taken_half c.args.halvings (lists_of lists) ps (omega arith) nothing) in
     let after : List Shelf = c.take_block.new.lists in
@@ -232,9 +232,9 @@ returns-in_ok-place-in-None-clause-pages t c =
     let there_after : i < length after = omega (arith, c.in_ok-place-in-None.ensures.shelves.six) in
     let shelf_is : shelf ≡ get_or after i no_shelf = get_or_default after i c.index-lists-class-in-None.result no_shelf there_after in
     let blocks_are : lists_of after ≡ blocks_left (lists_of lists) larger =
-      c.in_ok-place-in-None.ensures.blocks ∙ ap (λ (b : List (List ℕ)). blocks_left b (block_taken i b ps)) same in
+    c.in_ok-place-in-None.ensures.blocks ∙ ap (λ (b : List (List ℕ)). blocks_left b (block_taken i b ps)) same in
     let places_are : shelf.places ≡ [] =
-      sym (list_at after i c.index-lists-class-in-None.result there_after) ∙ ap (λ (b : List (List ℕ)). get_or b i []) blocks_are ∙ untouched i i (lists_of lists) ps (omega arith) ∙ nothing in
+    sym (list_at after i c.index-lists-class-in-None.result there_after) ∙ ap (λ (b : List (List ℕ)). get_or b i []) blocks_are ∙ untouched i i (lists_of lists) ps (omega arith) ∙ nothing in
     let one_more : suc i ≡ c.args.halvings = omega arith in
     let size_one : i + 1 ≡ c.args.halvings = omega arith in
     let place_is : Some c.in_ok-place-in-None.place ≡ place_taken larger = c.in_ok-place-in-None.ensures.place ∙ ap (λ (b : List (List ℕ)). place_taken (block_taken i b ps)) same in
@@ -251,7 +251,7 @@ returns-in_ok-place-in-None-clause-block t c =
     let empty : list ≡ [] = first_none list (sym c.in-None.ensures.first) in
     let nothing : get_or (lists_of lists) i [] ≡ [] = list_is ∙ empty in
     let same : lists_of (set lists i c.take_first.new.self) ≡ lists_of lists =
-      empty_stays lists i c.take_first.new.self nothing (ap (λ (s : Shelf). s.places) c.in-None.ensures.rest ∙ ap rest empty) in
+    empty_stays lists i c.take_first.new.self nothing (ap (λ (s : Shelf). s.places) c.in-None.ensures.rest ∙ ap rest empty) in
     let larger : Option Taken = block_taken i (lists_of lists) ps in
     let half : option_map (halved i) larger ≡ block_taken c.args.halvings (lists_of lists) ps = sym (taken_half c.args.halvings (lists_of lists) ps (omega arith) nothing) in
     let after : List Shelf = c.take_block.new.lists in
@@ -259,9 +259,9 @@ returns-in_ok-place-in-None-clause-block t c =
     let there_after : i < length after = omega (arith, c.in_ok-place-in-None.ensures.shelves.six) in
     let shelf_is : shelf ≡ get_or after i no_shelf = get_or_default after i c.index-lists-class-in-None.result no_shelf there_after in
     let blocks_are : lists_of after ≡ blocks_left (lists_of lists) larger =
-      c.in_ok-place-in-None.ensures.blocks ∙ ap (λ (b : List (List ℕ)). blocks_left b (block_taken i b ps)) same in
+    c.in_ok-place-in-None.ensures.blocks ∙ ap (λ (b : List (List ℕ)). blocks_left b (block_taken i b ps)) same in
     let places_are : shelf.places ≡ [] =
-      sym (list_at after i c.index-lists-class-in-None.result there_after) ∙ ap (λ (b : List (List ℕ)). get_or b i []) blocks_are ∙ untouched i i (lists_of lists) ps (omega arith) ∙ nothing in
+    sym (list_at after i c.index-lists-class-in-None.result there_after) ∙ ap (λ (b : List (List ℕ)). get_or b i []) blocks_are ∙ untouched i i (lists_of lists) ps (omega arith) ∙ nothing in
     let one_more : suc i ≡ c.args.halvings = omega arith in
     let size_one : i + 1 ≡ c.args.halvings = omega arith in
     subst (λ (n : ℕ). IsBlock (block_size n) c.in_ok-place-in-None.place) one_more (lower_block i c.in_ok-place-in-None.place (omega arith) c.in_ok-place-in-None.ensures.block)

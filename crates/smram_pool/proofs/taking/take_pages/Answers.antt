@@ -10,7 +10,7 @@ returns-in_err-index-clause-run c =
     let start : ℕ = c.args.start in
     let none : first_run c.args.count c.args.free.now ≡ None = cc (c.in_err-index.ensures.run) in
     let e : run_taken c.args.count (free_from start c.args.free.now) ≡ None =
-      run_found c.args.count start c.args.free.now c.requires.some ∙ ap (taken_at c.args.count start c.args.free.now) none in
+    run_found c.args.count start c.args.free.now c.requires.some ∙ ap (taken_at c.args.count start c.args.free.now) none in
     rw e c.from_residual.ensures
 
 pub returns-in_err-index-clause-left : goal.returns-in_err-index-clause-left
@@ -18,7 +18,7 @@ returns-in_err-index-clause-left c =
     let start : ℕ = c.args.start in
     let none : first_run c.args.count c.args.free.now ≡ None = cc (c.in_err-index.ensures.run) in
     let e : run_taken c.args.count (free_from start c.args.free.now) ≡ None =
-      run_found c.args.count start c.args.free.now c.requires.some ∙ ap (taken_at c.args.count start c.args.free.now) none in
+    run_found c.args.count start c.args.free.now c.requires.some ∙ ap (taken_at c.args.count start c.args.free.now) none in
     rw e refl
 
 pub returns-clause-run : goal.returns-clause-run
@@ -26,7 +26,7 @@ returns-clause-run c =
     let start : ℕ = c.args.start in
     let some : first_run c.args.count c.args.free.now ≡ Some c.in_ok-index.index = cc (c.in_ok-index.ensures.run) in
     let e : run_taken c.args.count (free_from start c.args.free.now) ≡ taken_at c.args.count start c.args.free.now (Some c.in_ok-index.index) =
-      run_found c.args.count start c.args.free.now c.requires.some ∙ ap (taken_at c.args.count start c.args.free.now) some in
+    run_found c.args.count start c.args.free.now c.requires.some ∙ ap (taken_at c.args.count start c.args.free.now) some in
     rw e refl
 
 pub returns-clause-left : goal.returns-clause-left
@@ -34,5 +34,5 @@ returns-clause-left c =
     let start : ℕ = c.args.start in
     let some : first_run c.args.count c.args.free.now ≡ Some c.in_ok-index.index = cc (c.in_ok-index.ensures.run) in
     let e : run_taken c.args.count (free_from start c.args.free.now) ≡ taken_at c.args.count start c.args.free.now (Some c.in_ok-index.index) =
-      run_found c.args.count start c.args.free.now c.requires.some ∙ ap (taken_at c.args.count start c.args.free.now) some in
+    run_found c.args.count start c.args.free.now c.requires.some ∙ ap (taken_at c.args.count start c.args.free.now) some in
     rw e (ap (free_from start) c.fill.ensures)

@@ -35,8 +35,8 @@ index_mut-requires c =
     let freed : IsBlockFreed c.args.place c.args.class start lists live free runs = block_freed_is c.args.place c.args.class start lists live free runs c.self.invariant is_live in
     omega (arith, freed.unit, c.self.inside.live.ok.0)
 
-pub overflow_sub-index : goal.overflow_sub-index
-overflow_sub-index c =
+pub overflow_sub-class : goal.overflow_sub-class
+overflow_sub-class c =
     let start : ℕ = c.self.inside.start in
     let lists : List Shelf = c.self.inside.lists in
     let live : List (Option ℕ) = c.self.inside.live.items in

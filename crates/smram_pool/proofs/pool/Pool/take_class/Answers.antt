@@ -24,17 +24,17 @@ overflow_sub-place c =
     let free_after : List Bool = c.take_block.new.free in
     let lent : List Bool = c.deref_mut.result.now in
     let gave : GaveBlock c.args.class start c.in-Some.place lists lists_after lent free_after (block_taken c.args.class (lists_of lists) (free_from start lent)) =
-      record {
-        place_is = c.in-Some.ensures.place;
-        blocks = c.in-Some.ensures.blocks;
-        pages = c.in-Some.ensures.pages;
-        shelves = c.in-Some.ensures.shelves;
-        length_is = c.in-Some.ensures.length;
-        aligned = c.in-Some.ensures.block.0;
-      } in
+    record {
+      place_is = c.in-Some.ensures.place;
+      blocks = c.in-Some.ensures.blocks;
+      pages = c.in-Some.ensures.pages;
+      shelves = c.in-Some.ensures.shelves;
+      length_is = c.in-Some.ensures.length;
+      aligned = c.in-Some.ensures.block.0;
+    } in
     let Gave : List Bool → Type 0 = λ f. GaveBlock c.args.class start c.in-Some.place lists lists_after f free_after (block_taken c.args.class (lists_of lists) (free_from start f)) in
     let taken : IsClassTaken c.args.class start c.in-Some.place lists lists_after live free free_after runs =
-      class_taken c.args.class start c.in-Some.place lists lists_after live free free_after runs c.requires c.self.invariant (subst Gave c.deref_mut.ensures.value gave) in
+    class_taken c.args.class start c.in-Some.place lists lists_after live free free_after runs c.requires c.self.invariant (subst Gave c.deref_mut.ensures.value gave) in
     taken.above
 
 pub index_mut-requires : goal.index_mut-requires
@@ -48,17 +48,17 @@ index_mut-requires c =
     let free_after : List Bool = c.take_block.new.free in
     let lent : List Bool = c.deref_mut.result.now in
     let gave : GaveBlock c.args.class start c.in-Some.place lists lists_after lent free_after (block_taken c.args.class (lists_of lists) (free_from start lent)) =
-      record {
-        place_is = c.in-Some.ensures.place;
-        blocks = c.in-Some.ensures.blocks;
-        pages = c.in-Some.ensures.pages;
-        shelves = c.in-Some.ensures.shelves;
-        length_is = c.in-Some.ensures.length;
-        aligned = c.in-Some.ensures.block.0;
-      } in
+    record {
+      place_is = c.in-Some.ensures.place;
+      blocks = c.in-Some.ensures.blocks;
+      pages = c.in-Some.ensures.pages;
+      shelves = c.in-Some.ensures.shelves;
+      length_is = c.in-Some.ensures.length;
+      aligned = c.in-Some.ensures.block.0;
+    } in
     let Gave : List Bool → Type 0 = λ f. GaveBlock c.args.class start c.in-Some.place lists lists_after f free_after (block_taken c.args.class (lists_of lists) (free_from start f)) in
     let taken : IsClassTaken c.args.class start c.in-Some.place lists lists_after live free free_after runs =
-      class_taken c.args.class start c.in-Some.place lists lists_after live free free_after runs c.requires c.self.invariant (subst Gave c.deref_mut.ensures.value gave) in
+    class_taken c.args.class start c.in-Some.place lists lists_after live free free_after runs c.requires c.self.invariant (subst Gave c.deref_mut.ensures.value gave) in
     omega (arith, taken.unit, c.self.inside.live.ok.0)
 
 pub invariant_of-self : goal.invariant_of-self
@@ -72,17 +72,17 @@ invariant_of-self c =
     let free_after : List Bool = c.take_block.new.free in
     let lent : List Bool = c.deref_mut.result.now in
     let gave : GaveBlock c.args.class start c.in-Some.place lists lists_after lent free_after (block_taken c.args.class (lists_of lists) (free_from start lent)) =
-      record {
-        place_is = c.in-Some.ensures.place;
-        blocks = c.in-Some.ensures.blocks;
-        pages = c.in-Some.ensures.pages;
-        shelves = c.in-Some.ensures.shelves;
-        length_is = c.in-Some.ensures.length;
-        aligned = c.in-Some.ensures.block.0;
-      } in
+    record {
+      place_is = c.in-Some.ensures.place;
+      blocks = c.in-Some.ensures.blocks;
+      pages = c.in-Some.ensures.pages;
+      shelves = c.in-Some.ensures.shelves;
+      length_is = c.in-Some.ensures.length;
+      aligned = c.in-Some.ensures.block.0;
+    } in
     let Gave : List Bool → Type 0 = λ f. GaveBlock c.args.class start c.in-Some.place lists lists_after f free_after (block_taken c.args.class (lists_of lists) (free_from start f)) in
     let taken : IsClassTaken c.args.class start c.in-Some.place lists lists_after live free free_after runs =
-      class_taken c.args.class start c.in-Some.place lists lists_after live free free_after runs c.requires c.self.invariant (subst Gave c.deref_mut.ensures.value gave) in
+    class_taken c.args.class start c.in-Some.place lists lists_after live free free_after runs c.requires c.self.invariant (subst Gave c.deref_mut.ensures.value gave) in
     let lent_length : length lent ≡ length free = ap length c.deref_mut.ensures.value in
     let same_length : length free_after ≡ c.self.inside.free.len = omega (arith, c.in-Some.ensures.length, lent_length, c.self.inside.free.ok.0) in
     let kept = with_items_is c.self.inside.free free_after same_length in
@@ -101,17 +101,17 @@ returns-in-Some-clause-after c =
     let free_after : List Bool = c.take_block.new.free in
     let lent : List Bool = c.deref_mut.result.now in
     let gave : GaveBlock c.args.class start c.in-Some.place lists lists_after lent free_after (block_taken c.args.class (lists_of lists) (free_from start lent)) =
-      record {
-        place_is = c.in-Some.ensures.place;
-        blocks = c.in-Some.ensures.blocks;
-        pages = c.in-Some.ensures.pages;
-        shelves = c.in-Some.ensures.shelves;
-        length_is = c.in-Some.ensures.length;
-        aligned = c.in-Some.ensures.block.0;
-      } in
+    record {
+      place_is = c.in-Some.ensures.place;
+      blocks = c.in-Some.ensures.blocks;
+      pages = c.in-Some.ensures.pages;
+      shelves = c.in-Some.ensures.shelves;
+      length_is = c.in-Some.ensures.length;
+      aligned = c.in-Some.ensures.block.0;
+    } in
     let Gave : List Bool → Type 0 = λ f. GaveBlock c.args.class start c.in-Some.place lists lists_after f free_after (block_taken c.args.class (lists_of lists) (free_from start f)) in
     let taken : IsClassTaken c.args.class start c.in-Some.place lists lists_after live free free_after runs =
-      class_taken c.args.class start c.in-Some.place lists lists_after live free free_after runs c.requires c.self.invariant (subst Gave c.deref_mut.ensures.value gave) in
+    class_taken c.args.class start c.in-Some.place lists lists_after live free free_after runs c.requires c.self.invariant (subst Gave c.deref_mut.ensures.value gave) in
     let lent_length : length lent ≡ length free = ap length c.deref_mut.ensures.value in
     let same_length : length free_after ≡ c.self.inside.free.len = omega (arith, c.in-Some.ensures.length, lent_length, c.self.inside.free.ok.0) in
     let kept = with_items_is c.self.inside.free free_after same_length in

@@ -24,10 +24,10 @@ invariant_of-self c =
     let lent : List Bool = c.deref_mut.result.now in
     let length_is : length free_after ≡ length lent = omega (arith, c.take_pages.auto.free) in
     let gave : GaveRun c.args.count start c.in-Some.place lent free_after (run_taken c.args.count (free_from start lent)) =
-      record { place_is = c.in-Some.ensures.run; pages = c.in-Some.ensures.left; length_is = length_is; within = c.in-Some.ensures.within } in
+    record { place_is = c.in-Some.ensures.run; pages = c.in-Some.ensures.left; length_is = length_is; within = c.in-Some.ensures.within } in
     let Gave : List Bool → Type 0 = λ f. GaveRun c.args.count start c.in-Some.place f free_after (run_taken c.args.count (free_from start f)) in
     let taken : IsRunTaken c.args.count start c.in-Some.place lists live free free_after runs =
-      run_taken_is c.args.count start c.in-Some.place lists live free free_after runs c.requires c.self.invariant (subst Gave c.deref_mut.ensures.value gave) in
+    run_taken_is c.args.count start c.in-Some.place lists live free free_after runs c.requires c.self.invariant (subst Gave c.deref_mut.ensures.value gave) in
     let lent_length : length lent ≡ length free = ap length c.deref_mut.ensures.value in
     let same_length : length free_after ≡ c.self.inside.free.len = omega (arith, length_is, lent_length, c.self.inside.free.ok.0) in
     let kept = with_items_is c.self.inside.free free_after same_length in
@@ -46,10 +46,10 @@ returns-in-Some-clause-after c =
     let lent : List Bool = c.deref_mut.result.now in
     let length_is : length free_after ≡ length lent = omega (arith, c.take_pages.auto.free) in
     let gave : GaveRun c.args.count start c.in-Some.place lent free_after (run_taken c.args.count (free_from start lent)) =
-      record { place_is = c.in-Some.ensures.run; pages = c.in-Some.ensures.left; length_is = length_is; within = c.in-Some.ensures.within } in
+    record { place_is = c.in-Some.ensures.run; pages = c.in-Some.ensures.left; length_is = length_is; within = c.in-Some.ensures.within } in
     let Gave : List Bool → Type 0 = λ f. GaveRun c.args.count start c.in-Some.place f free_after (run_taken c.args.count (free_from start f)) in
     let taken : IsRunTaken c.args.count start c.in-Some.place lists live free free_after runs =
-      run_taken_is c.args.count start c.in-Some.place lists live free free_after runs c.requires c.self.invariant (subst Gave c.deref_mut.ensures.value gave) in
+    run_taken_is c.args.count start c.in-Some.place lists live free free_after runs c.requires c.self.invariant (subst Gave c.deref_mut.ensures.value gave) in
     let lent_length : length lent ≡ length free = ap length c.deref_mut.ensures.value in
     let same_length : length free_after ≡ c.self.inside.free.len = omega (arith, length_is, lent_length, c.self.inside.free.ok.0) in
     let kept = with_items_is c.self.inside.free free_after same_length in
