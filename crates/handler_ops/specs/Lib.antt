@@ -1,0 +1,9 @@
+pub mod Registrations
+pub mod Pools
+pub mod Answers
+pub mod Serving
+pub mod Operations
+pub mod Forms
+pub mod Beginning
+pub mod Places
+pub mod Stands
