@@ -1,5 +1,5 @@
 -- From every place the rest can be said.
-use Rattle.std.proofs.Common.{◌≡◌, ◌+◌, ℕ, zero, suc, Bool, true, false, ◌&&◌, cond, List, [], ◌∷◌, Option, Some, None, refl, sym, ap, ◌∙◌}
+use Rattle.std.proofs.Common.{◌≡◌, ◌+◌, ℕ, zero, suc, Bool, true, false, ◌&&◌, cond, List, [], ◌∷◌, Option, Some, None, refl, sym, ap, ◌∙◌, subst}
 use Rattle.std.proofs.lemmas.Bool.{eqb-true, eq-eqb}
 use Rattle.std.specs.Prelude.{slice_index_or, slice_set, option_map, ◌==◌}
 use Rattle.std.specs.List.{find}
@@ -145,16 +145,18 @@ check_done : (ps : List ProcedureDef) (v : Operand) (k : Rest) → Can k → (s 
     → find (λ u. u.job == number s v) s.tokens ≡ None → owner (number s v) s.seats ≡ Some c → seat s c ≡ Done j t x S → CanFrom (Operating ps (op.Check v) k) s
 check_done ps v k h s c j x t S none who e =
     let owes : owes_token (number s v) (seat s c) ≡ true = owner_owes (number s v) s.seats c who in
+    let has : (t && (j == number s v)) ≡ true = subst (λ (q : Seat). owes_token (number s v) q ≡ true) e owes in
     let found : find (λ u. u.job == number s v) (collected c s).tokens ≡ Some (record { job = j; cpu = c; result = x; status = S }) =
-    rw e (token_collected (number s v) c j x t S s.tokens (rw (← e) owes)) in
+    rw e (token_collected (number s v) c j x t S s.tokens has) in
     with_collect ps (op.Check v) c k s (check_known ps v k h (collected c s) _ found) (rw (none, who) refl, rw e tt)
 
 wait_done : (ps : List ProcedureDef) (v : Operand) (into : ℕ) (k : Rest) → Can k → (s : Serving) (c j x : ℕ) (t : Bool) (S : Status)
     → find (λ u. u.job == number s v) s.tokens ≡ None → owner (number s v) s.seats ≡ Some c → seat s c ≡ Done j t x S → CanFrom (Operating ps (op.Wait v into) k) s
 wait_done ps v into k h s c j x t S none who e =
     let owes : owes_token (number s v) (seat s c) ≡ true = owner_owes (number s v) s.seats c who in
+    let has : (t && (j == number s v)) ≡ true = subst (λ (q : Seat). owes_token (number s v) q ≡ true) e owes in
     let found : find (λ u. u.job == number s v) (collected c s).tokens ≡ Some (record { job = j; cpu = c; result = x; status = S }) =
-    rw e (token_collected (number s v) c j x t S s.tokens (rw (← e) owes)) in
+    rw e (token_collected (number s v) c j x t S s.tokens has) in
     with_collect ps (op.Wait v into) c k s (wait_known ps v into k h (collected c s) _ found) (rw (none, who) refl, rw e tt)
 
 check_can : (ps : List ProcedureDef) (v : Operand) (k : Rest) → Can k → Can (Operating ps (op.Check v) k)

@@ -2,5 +2,5 @@ pub mod Steps
 pub mod Runs
 pub mod Completion
 pub mod Numbers
-pub mod Standing
+pub mod Judging
 pub mod Examples

@@ -1,3 +1,7 @@
 // What the boot processor does between the beginning of serving and its end: walks over handlers, their operations,
 // and procedures that other processors run. It knows no words and no threads.
 #![tactic(auto)]
+
+mod laws;
+
+pub use laws::{serving_lists, standing};
