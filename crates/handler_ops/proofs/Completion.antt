@@ -1,5 +1,5 @@
 -- From every place the rest can be said.
-use Rattle.std.proofs.Common.{◌≡◌, ◌+◌, ℕ, zero, suc, Bool, true, false, ◌&&◌, cond, List, [], ◌∷◌, Option, Some, None, refl, sym, ap, ◌∙◌, subst}
+use Rattle.std.proofs.Common.{◌≡◌, ◌+◌, ℕ, zero, suc, Bool, true, false, ◌&&◌, cond, List, [], ◌∷◌, Option, Some, None, Result, Ok, Err, refl, sym, ap, ◌∙◌, subst}
 use Rattle.std.proofs.lemmas.Bool.{eqb-true, eq-eqb}
 use Rattle.std.specs.Prelude.{slice_index_or, slice_set, option_map, ◌==◌}
 use Rattle.std.specs.List.{find}
@@ -13,11 +13,13 @@ use Rattle.cpu_table.specs.declared.handlers.ProcedureDef.{ProcedureDef}
 use Rattle.sync_words.specs.declared.label.StartRefusal.TheVariants.{OutOfRange}
 use Rattle.sync_words.specs.declared.label.Label.{Label}
 use Rattle.sync_words.specs.declared.label.Label.TheVariants as say
-use Rattle.handler_ops.specs.Registrations.{Registration, is_live, is_full}
-use Rattle.handler_ops.specs.Pools.{place_of, is_block}
-use Rattle.handler_ops.specs.Answers.{stops}
+use Rattle.handler_registry.specs.declared.registration.Registration.{Registration}
+use Rattle.handler_registry.specs.Registrations.{is_live, is_full}
+use Rattle.smram_pool.specs.declared.error.PoolError.{PoolError}
+use Rattle.smram_pool.specs.State.{allocated, freed}
+use Rattle.smi_manage.specs.Answers.{stops}
 use Rattle.handler_ops.specs.Serving.{Serving, Seat, Free, Open, Done, Token, number, seat, ran, run_at, collected, returned, with_token, owes_token, owner, token_of, state_of, IsDone, HasEnded}
-use Rattle.handler_ops.specs.Operations.{after, Collects, register_of, refused_size, free_status, unregister_status}
+use Rattle.handler_ops.specs.Operations.{after, Collects, register_of, pool_status, free_status, unregister_status}
 use Rattle.handler_ops.specs.Forms.{Event, Own, Ran, Program, operations_of, status_of, Rest, Part, Ends, Exactly, Returning, Operating, InUnit, Operation, Operations, Calling, Calls, Answering, Walk, Entries, by_left, by_turn, by_test, turn_of, count_up}
 use Rattle.handler_ops.specs.Places.{Call, OpenWalk, Begun, First, Started, Awaited, Place, one_less, levels_left, AnsweringLater, OpenWalkRest, OpenWalksRest, StillToSay}
 
@@ -202,15 +204,15 @@ wait_can ps v into k h s = by_token (find (λ u. u.job == number s v) s.tokens) 
     by_token None e = by_owner (owner (number s v) s.seats) refl e
 
 alloc_can : (ps : List ProcedureDef) (v : Operand) (into : ℕ) (k : Rest) → Can k → Can (Operating ps (op.Alloc v into) k)
-alloc_can ps v into k h s = by_place (place_of (number s v) s.pool) refl
+alloc_can ps v into k h s = by_place (allocated (number s v) s.pool).0 refl
   where
-    by_place : (o : Option ℕ) → place_of (number s v) s.pool ≡ o → CanFrom (Operating ps (op.Alloc v into) k) s
-    by_place None e =
-        let l = say.Alloc (number s v) 0 (refused_size (number s v)) in
-        let r = h (after (op.Alloc v into) s l) in (Own l ∷ r.0, ((refl, rw e (refl, refl)), r.1))
-    by_place (Some place) e =
+    by_place : (o : Result ℕ PoolError) → (allocated (number s v) s.pool).0 ≡ o → CanFrom (Operating ps (op.Alloc v into) k) s
+    by_place (Err e) f =
+        let l = say.Alloc (number s v) 0 (pool_status e) in
+        let r = h (after (op.Alloc v into) s l) in (Own l ∷ r.0, ((refl, rw f (refl, refl)), r.1))
+    by_place (Ok place) f =
         let l = say.Alloc (number s v) place Success in
-        let r = h (after (op.Alloc v into) s l) in (Own l ∷ r.0, ((refl, rw e (refl, refl)), r.1))
+        let r = h (after (op.Alloc v into) s l) in (Own l ∷ r.0, ((refl, rw f (refl, refl)), r.1))
 
 register_can : (ps : List ProcedureDef) (handler : ℕ) (kind : HandlerType) (into : ℕ) (k : Rest) → Can k → Can (Operating ps (op.Register handler kind into) k)
 register_can ps handler kind into k h s = by_full (is_full s.registrations) refl
@@ -236,7 +238,7 @@ operation_can ps deeper d (op.Check v) k h = check_can ps v k h
 operation_can ps deeper d (op.Wait v into) k h = wait_can ps v into k h
 operation_can ps deeper d (op.Alloc v into) k h = alloc_can ps v into k h
 operation_can ps deeper d (op.Free v) k h = λ s.
-    let l = say.Free (number s v) (free_status (is_block (number s v) s.pool)) in
+    let l = say.Free (number s v) (free_status (freed (number s v) s.pool).0) in
     let t = h (after (op.Free v) s l) in (Own l ∷ t.0, ((refl, refl), t.1))
 operation_can ps deeper d (op.Register handler kind into) k h = register_can ps handler kind into k h
 operation_can ps deeper d (op.Unregister v) k h = λ s.

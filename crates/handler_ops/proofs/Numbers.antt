@@ -10,9 +10,10 @@ use Rattle.cpu_table.specs.declared.handlers.OpDef.TheVariants as op
 use Rattle.cpu_table.specs.declared.handlers.ProcedureDef.{ProcedureDef}
 use Rattle.sync_words.specs.declared.label.Label.{Label}
 use Rattle.sync_words.specs.declared.label.Label.TheVariants as say
-use Rattle.handler_ops.specs.Registrations.{Registration, has_serial, is_full}
-use Rattle.handler_ops.specs.Answers.{Running}
-use Rattle.handler_ops.specs.Pools.{placed}
+use Rattle.handler_registry.specs.declared.registration.Registration.{Registration}
+use Rattle.handler_registry.specs.Registrations.{has_serial, is_full}
+use Rattle.smi_manage.specs.declared.running.Running.{Running}
+use Rattle.smram_pool.specs.State.{allocated}
 use Rattle.handler_ops.specs.Serving.{Serving, Seat, Free, Open, Done, seat, put_on, collected, put_result, returned, dropped, given_to}
 use Rattle.handler_ops.specs.Operations.{Fits, after, Collects, RegisterShows, register_on, drop_on}
 use Rattle.handler_ops.specs.Forms.{Event, Own, Ran, Program, by_left, by_turn, by_collect, turn_of}
@@ -65,7 +66,7 @@ after_kept ps (op.Launch cpu name arg into) s (say.Start c j p a) h = record { l
 after_kept ps (op.Launch cpu name arg into) s (say.Refuse c x) h = unchanged s
 after_kept ps (op.Check v) s (say.Check j S) h = drop_kept S j s
 after_kept ps (op.Wait v into) s (say.Wait j x S) h = put_kept S into x s (dropped j s) (record { later = omega arith; live = λ n b q. q })
-after_kept ps (op.Alloc v into) s (say.Alloc n x S) h = put_kept S into x s (record s { pool = placed n s.pool }) (record { later = omega arith; live = λ n b q. q })
+after_kept ps (op.Alloc v into) s (say.Alloc n x S) h = put_kept S into x s (record s { pool = (allocated n s.pool).1 }) (record { later = omega arith; live = λ n b q. q })
 after_kept ps (op.Free v) s (say.Free n S) h = record { later = omega arith; live = λ n b q. q }
 after_kept ps (op.Register handler kind into) s (say.Register h n S) f =
     put_kept S into n s (register_on S kind handler s) (registers_kept (is_full s.registrations) s n handler kind S f.1)

@@ -10,8 +10,9 @@ use Rattle.cpu_table.specs.declared.handlers.OpDef.TheVariants as op
 use Rattle.cpu_table.specs.declared.handlers.ProcedureDef.{ProcedureDef}
 use Rattle.sync_words.specs.declared.label.Label.{Label}
 use Rattle.sync_words.specs.declared.label.Label.TheVariants as say
-use Rattle.handler_ops.specs.Registrations.{Registration}
-use Rattle.handler_ops.specs.Answers.{Running, stops, is_good, last_or, answer_of, fresh, plus, run, ended_with}
+use Rattle.handler_registry.specs.declared.registration.Registration.{Registration}
+use Rattle.smi_manage.specs.declared.running.Running.{Running}
+use Rattle.smi_manage.specs.Answers.{stops, settles, last_or, answer_of, fresh, plus, run, ended_with}
 use Rattle.handler_ops.specs.Serving.{Serving, collected}
 use Rattle.handler_ops.specs.Operations.{Fits, after, Collects}
 use Rattle.handler_ops.specs.Forms.{Event, Own, Program, status_of, Rest, Part, Exactly, Returning, AfterLabel, Operating, Operation, Operations, Calls, Answering, Walk, Entries, by_start, by_left, by_turn, by_test, by_collect, turn_of, count_up}
@@ -81,13 +82,12 @@ run_last : (kind : HandlerType) (r : Running) (xs : List Status) → (run kind r
 run_last kind r [] = refl
 run_last kind r (x ∷ xs) = run_last kind (plus kind r x) xs
 
-run_good : (kind : HandlerType) (r : Running) (xs : List Status) → (run kind r xs).is_good ≡ (r.is_good || list_any (is_good kind) xs)
-run_good kind r [] = or_false r.is_good
-run_good kind r (x ∷ xs) = run_good kind (plus kind r x) xs ∙ or_assoc r.is_good (is_good kind x) (list_any (is_good kind) xs)
+run_settled : (kind : HandlerType) (r : Running) (xs : List Status) → (run kind r xs).settled ≡ (r.settled || list_any (settles kind) xs)
+run_settled kind r [] = or_false r.settled
+run_settled kind r (x ∷ xs) = run_settled kind (plus kind r x) xs ∙ or_assoc r.settled (settles kind x) (list_any (settles kind) xs)
 
 pub running_answer : (kind : HandlerType) (xs : List Status) → ended_with kind (run kind fresh xs) ≡ answer_of kind xs
-running_answer Root xs = rw (run_last Root fresh xs, run_good Root fresh xs) refl
-running_answer (Typed g) xs = rw (run_last (Typed g) fresh xs, run_good (Typed g) fresh xs) refl
+running_answer kind xs = rw (run_last kind fresh xs, run_settled kind fresh xs) refl
 
 answering_same : (kind : HandlerType) (k : Rest) → AnsweringLater kind fresh k ≡ Answering kind k
 answering_same kind k = λ i. λ xs. Exactly (say.Answer (running_answer kind xs i)) k

@@ -3,8 +3,8 @@ use Rattle.std.specs.Prelude.{ℕ, zero, suc, List, [], ◌∷◌, Option, Some,
 use Rattle.smm_base.specs.declared.kinds.HandlerType.{HandlerType}
 use Rattle.cpu_table.specs.declared.waves.Wave.{Wave}
 use Rattle.cpu_table.specs.Data.{SetupData}
-use Rattle.handler_ops.specs.Registrations.{Registrations}
-use Rattle.handler_ops.specs.Pools.{PoolState}
+use Rattle.handler_registry.specs.Registrations.{Registrations}
+use Rattle.smram_pool.specs.State.{PoolState}
 use Rattle.handler_ops.specs.Serving.{Serving, Free}
 use Rattle.handler_ops.specs.Forms.{Program}
 

@@ -13,8 +13,9 @@ use Rattle.cpu_table.specs.declared.handlers.HandlerDef.{HandlerDef}
 use Rattle.cpu_table.specs.declared.handlers.ProcedureDef.{ProcedureDef}
 use Rattle.sync_words.specs.declared.label.Label.{Label}
 use Rattle.sync_words.specs.declared.label.Label.TheVariants as say
-use Rattle.handler_ops.specs.Registrations.{Registrations, Registration, is_same_list, has_serial}
-use Rattle.handler_ops.specs.Answers.{stops, answer_of}
+use Rattle.handler_registry.specs.declared.registration.Registration.{Registration}
+use Rattle.handler_registry.specs.Registrations.{Registrations, is_same_list, has_serial}
+use Rattle.smi_manage.specs.Answers.{stops, answer_of}
 use Rattle.handler_ops.specs.Serving.{Serving, seat, ran, collected, returned, HasOpen, HasEnded}
 use Rattle.handler_ops.specs.Operations.{Fits, after, Collects}
 

@@ -1,6 +1,3 @@
-pub mod Registrations
-pub mod Pools
-pub mod Answers
 pub mod Serving
 pub mod Operations
 pub mod Forms

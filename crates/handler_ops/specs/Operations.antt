@@ -1,5 +1,5 @@
 -- The own label of each operation: which one fits, what it changes, and whose job may be collected before it.
-use Rattle.std.specs.Prelude.{◌≡◌, ◌<◌, ℕ, zero, suc, ◌+◌, Bool, true, false, List, length, Option, Some, None, position, unwrap_or}
+use Rattle.std.specs.Prelude.{◌≡◌, ◌<◌, ℕ, ◌+◌, Bool, true, false, List, length, Option, Some, None, position, unwrap_or, Result, Ok, Err}
 use Rattle.smm_base.specs.declared.status.Status.{Status}
 use Rattle.smm_base.specs.declared.status.Status.TheVariants.{Success, InvalidParameter, NotReady, NotFound, OutOfResources}
 use Rattle.smm_base.specs.declared.kinds.HandlerType.{HandlerType}
@@ -12,8 +12,10 @@ use Rattle.cpu_table.specs.declared.handlers.ProcedureDef.{ProcedureDef}
 use Rattle.cpu_table.specs.Ranges.{same_text}
 use Rattle.sync_words.specs.declared.label.Label.{Label}
 use Rattle.sync_words.specs.declared.label.Label.TheVariants as say
-use Rattle.handler_ops.specs.Registrations.{is_live, is_full, registered, unregistered}
-use Rattle.handler_ops.specs.Pools.{PoolState, place_of, placed, is_block, freed}
+use Rattle.handler_registry.specs.Registrations.{is_live, is_full, registered, unregistered}
+use Rattle.smram_pool.specs.declared.error.PoolError.{PoolError}
+use Rattle.smram_pool.specs.declared.error.PoolError.TheVariants as pool
+use Rattle.smram_pool.specs.State.{allocated, freed}
 use Rattle.handler_ops.specs.Serving.{Serving, Seat, Free, Open, Done, TokenState, NotOut, Uncollected, Collected, number, put, put_on, seat, given_to, token_of, dropped, HasOpen, IsFree, IsDone, HasEnded, IsOutOn}
 
 -- the register with this number; a platform names no number that is no register's, so that RAX never stands for none
@@ -44,18 +46,20 @@ WaitShows NotOut x S = (x ≡ 0) × (S ≡ InvalidParameter)
 WaitShows (Uncollected c) x S = ⊥
 WaitShows (Collected t) x S = (x ≡ t.result) × (S ≡ t.status)
 
--- the place that a request of the pool gets, or 0 with the cause of the refusal
-abbrev pub refused_size : ℕ → Status
-refused_size zero = InvalidParameter
-refused_size (suc n) = OutOfResources
+-- why the pool refuses
+abbrev pub pool_status : PoolError → Status
+pool_status pool.Zero = InvalidParameter
+pool_status pool.OutOfResources = OutOfResources
+pool_status (pool.NotABlock place) = InvalidParameter
 
-abbrev pub AllocShows : ℕ → Option ℕ → ℕ → Status → Type 0
-AllocShows size None x S = (x ≡ 0) × (S ≡ refused_size size)
-AllocShows size (Some place) x S = (x ≡ place) × (S ≡ Success)
+-- the place that a request gets, or 0 with the cause of the refusal
+abbrev pub AllocShows : Result ℕ PoolError → ℕ → Status → Type 0
+AllocShows (Ok place) x S = (x ≡ place) × (S ≡ Success)
+AllocShows (Err e) x S = (x ≡ 0) × (S ≡ pool_status e)
 
-abbrev pub free_status : Bool → Status
-free_status true = Success
-free_status false = InvalidParameter
+abbrev pub free_status : Result (Unit {0}) PoolError → Status
+free_status (Ok u) = Success
+free_status (Err e) = pool_status e
 
 abbrev pub RegisterShows : Bool → Serving → ℕ → Status → Type 0
 RegisterShows true s n S = (n ≡ 0) × (S ≡ OutOfResources)
@@ -90,8 +94,8 @@ Fits ps (op.Launch cpu name arg into) s (say.Refuse c cause) = c ≡ cpu
 Fits ps (op.Launch cpu name arg into) s (say.Start c j p a) = Starts ps s cpu name (number s arg) c j p a
 Fits ps (op.Check token) s (say.Check j S) = (j ≡ number s token) × CheckShows s (token_of s (number s token)) S
 Fits ps (op.Wait token into) s (say.Wait j x S) = (j ≡ number s token) × WaitShows (token_of s (number s token)) x S
-Fits ps (op.Alloc size into) s (say.Alloc n x S) = (n ≡ number s size) × AllocShows (number s size) (place_of (number s size) s.pool) x S
-Fits ps (op.Free place) s (say.Free n S) = (n ≡ number s place) × (S ≡ free_status (is_block (number s place) s.pool))
+Fits ps (op.Alloc size into) s (say.Alloc n x S) = (n ≡ number s size) × AllocShows (allocated (number s size) s.pool).0 x S
+Fits ps (op.Free place) s (say.Free n S) = (n ≡ number s place) × (S ≡ free_status (freed (number s place) s.pool).0)
 Fits ps (op.Register handler kind into) s (say.Register h n S) = (h ≡ handler) × RegisterShows (is_full s.registrations) s n S
 Fits ps (op.Unregister handle) s (say.Unregister n S) = (n ≡ number s handle) × (S ≡ unregister_status (is_live (number s handle) s.registrations))
 Fits ps _ s _ = ⊥
@@ -112,8 +116,8 @@ after (op.Start cpu name arg into) s (say.Start c j p a) = given_to cpu j false 
 after (op.Launch cpu name arg into) s (say.Start c j p a) = put into j (given_to cpu j true s)
 after (op.Check token) s (say.Check j S) = drop_on S j s
 after (op.Wait token into) s (say.Wait j x S) = put_on S into x (dropped j s)
-after (op.Alloc size into) s (say.Alloc n x S) = put_on S into x (record s { pool = placed n s.pool })
-after (op.Free place) s (say.Free n S) = record s { pool = freed n s.pool }
+after (op.Alloc size into) s (say.Alloc n x S) = put_on S into x (record s { pool = (allocated n s.pool).1 })
+after (op.Free place) s (say.Free n S) = record s { pool = (freed n s.pool).1 }
 after (op.Register handler kind into) s (say.Register h n S) = put_on S into n (register_on S kind handler s)
 after (op.Unregister handle) s (say.Unregister n S) = record s { registrations = unregistered n s.registrations }
 after _ s _ = s

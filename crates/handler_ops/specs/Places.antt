@@ -7,8 +7,9 @@ use Rattle.cpu_table.specs.declared.handlers.OpDef.TheVariants as op
 use Rattle.cpu_table.specs.declared.handlers.ProcedureDef.{ProcedureDef}
 use Rattle.sync_words.specs.declared.label.Label.{Label}
 use Rattle.sync_words.specs.declared.label.Label.TheVariants as say
-use Rattle.handler_ops.specs.Registrations.{Registration}
-use Rattle.handler_ops.specs.Answers.{Running, stops, fresh, plus, run, ended_with}
+use Rattle.handler_registry.specs.declared.registration.Registration.{Registration}
+use Rattle.smi_manage.specs.declared.running.Running.{Running}
+use Rattle.smi_manage.specs.Answers.{stops, fresh, plus, run, ended_with}
 use Rattle.handler_ops.specs.Serving.{Serving, seat, ran, collected, returned, HasOpen, HasEnded}
 use Rattle.handler_ops.specs.Operations.{Fits, after, Collects}
 use Rattle.handler_ops.specs.Forms.{Event, Own, Ran, Program, operations_of, status_of, Rest, Part, Exactly, Returning, Operation, Operations, Calls, Walk, Entries, by_left, by_turn, by_test, by_collect, turn_of, count_up}

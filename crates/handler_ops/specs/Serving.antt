@@ -5,8 +5,8 @@ use Rattle.smm_base.specs.declared.status.Status.{Status}
 use Rattle.smm_base.specs.declared.status.Status.TheVariants.{Success}
 use Rattle.cpu_table.specs.declared.handlers.Operand.{Operand}
 use Rattle.cpu_table.specs.declared.handlers.Operand.TheVariants.{Number, Variable}
-use Rattle.handler_ops.specs.Registrations.{Registrations}
-use Rattle.handler_ops.specs.Pools.{PoolState}
+use Rattle.handler_registry.specs.Registrations.{Registrations}
+use Rattle.smram_pool.specs.State.{PoolState}
 
 -- A processor's uncollected job: there is none, or one that is still to be run, or one that was run, with its result and
 -- its status. The number is the job's; the Bool says whether it was given with a token.

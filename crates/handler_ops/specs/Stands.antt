@@ -1,7 +1,7 @@
 -- What it means that a place stands for a list.
 use Rattle.std.specs.Prelude.{◌≡◌, ℕ, ◌≤◌, true, ◌↔◌, List, [], ◌∷◌, ◌++◌}
 use Rattle.smm_base.specs.declared.kinds.HandlerType.{HandlerType}
-use Rattle.handler_ops.specs.Registrations.{is_live}
+use Rattle.handler_registry.specs.Registrations.{is_live}
 use Rattle.handler_ops.specs.Serving.{Serving}
 use Rattle.handler_ops.specs.Forms.{Program, Event, IsWhole, IsPrefix}
 use Rattle.handler_ops.specs.Places.{Place, StillToSay, Accepts, next}
