@@ -4,3 +4,4 @@ pub mod Forms
 pub mod Beginning
 pub mod Places
 pub mod Stands
+pub mod Course

@@ -2,6 +2,10 @@
 // and procedures that other processors run. It knows no words and no threads.
 #![tactic(auto)]
 
+mod desk;
 mod laws;
+mod need;
 
+pub use desk::{Desk, Job};
 pub use laws::{serving_lists, standing};
+pub use need::Need;
