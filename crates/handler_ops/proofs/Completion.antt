@@ -62,7 +62,7 @@ now_done [] c j t q h = cc
 now_done (x ∷ qs) zero j t q h = refl
 now_done (x ∷ qs) (suc c) j t q h = now_done qs c j t q h
 
-seat_ran : (s : Serving) (c j x : ℕ) (t : Bool) (S : Status) → seat s c ≡ Open j t → seat (ran c x S s) c ≡ Done j t x S
+pub seat_ran : (s : Serving) (c j x : ℕ) (t : Bool) (S : Status) → seat s c ≡ Open j t → seat (ran c x S s) c ≡ Done j t x S
 seat_ran s c j x t S e = now_done s.seats c j t (run_at (seat s c) x S) e ∙ ap (λ (q : Seat). run_at q x S) e
 
 -- running a job changes no token
@@ -71,7 +71,7 @@ owes_ran n x S Free = refl
 owes_ran n x S (Open j t) = refl
 owes_ran n x S (Done j t y T) = refl
 
-owner_ran : (n x c : ℕ) (S : Status) (qs : List Seat) → owner n (slice_set qs c (run_at (slice_index_or qs c Free) x S)) ≡ owner n qs
+pub owner_ran : (n x c : ℕ) (S : Status) (qs : List Seat) → owner n (slice_set qs c (run_at (slice_index_or qs c Free) x S)) ≡ owner n qs
 owner_ran n x c S [] = refl
 owner_ran n x zero S (q ∷ qs) = rw (owes_ran n x S q) refl
 owner_ran n x (suc c) S (q ∷ qs) = rw (owner_ran n x c S qs) refl

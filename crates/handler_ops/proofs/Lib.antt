@@ -3,4 +3,5 @@ pub mod Runs
 pub mod Completion
 pub mod Numbers
 pub mod Judging
+pub mod Courses
 pub mod Examples

@@ -5,3 +5,4 @@ pub mod Beginning
 pub mod Places
 pub mod Stands
 pub mod Course
+pub mod Conditions
