@@ -179,22 +179,43 @@ def calls():
     yield "free", 0x600C00
     yield "free", 0x600A00
     yield "alloc", 200
+    # a mixed sequence: requests with every third call a free at the places of the first page
+    yield "new", 0x700000, 2
+    for i in range(1, 40):
+        if i % 3 == 0:
+            yield "free", 0x700000 + 256 * (7 * i % 16)
+        else:
+            yield "alloc", 37 * i % 600
+    yield "pages", 1
+
+
+def answer_to(pool, name, first, second):
+    try:
+        if name == "alloc":
+            return str(pool.alloc(first))
+        if name == "pages":
+            return str(pool.alloc_pages(second))
+        if name == "free":
+            pool.free(first)
+        else:
+            pool.free_pages_at(first, second)
+        return "ok"
+    except Refused as refused:
+        return str(refused)
 
 
 def table():
+    """A line for each call: its name, a place or a size, a number of pages, and the answer."""
     pool = None
     for name, *numbers in calls():
+        first = 0 if name == "pages" else numbers[0]
+        second = numbers[-1] if name in ("new", "pages", "unpages") else 0
         if name == "new":
-            pool = Pool(*numbers)
+            pool = Pool(first, second)
             answer = "ok"
         else:
-            call = {"alloc": pool.alloc, "free": pool.free, "pages": pool.alloc_pages, "unpages": pool.free_pages_at}[name]
-            try:
-                place = call(*numbers)
-                answer = "ok" if place is None else str(place)
-            except Refused as refused:
-                answer = str(refused)
-        yield " ".join([name, *map(str, numbers), answer])
+            answer = answer_to(pool, name, first, second)
+        yield f"{name} {first} {second} {answer}"
 
 
 def main():
