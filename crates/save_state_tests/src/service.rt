@@ -70,9 +70,10 @@ const NUMBERS: [(Field, u64); 6] = [
 fn answers(image: &Image, present: bool, reg: u32, width: usize, more: bool) -> (Status, Status) {
     let width = width.min(24) + usize::from(more);
     let mut out = [0; 32];
+    let zeros = [0; 32];
     let mut written = *image;
     let read = read_register(image, present, 7, reg, &mut out[..width]);
-    let write = write_register(&mut written, present, reg, &ZEROS[..width]);
+    let write = write_register(&mut written, present, reg, &zeros[..width]);
     (read, write)
 }
 
