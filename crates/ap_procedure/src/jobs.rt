@@ -53,7 +53,8 @@ impl Jobs {
     }
 
     /// Gives the processor a job, with a token or without. The answer is the job's number: how many
-    /// were given since `new` or the last `clear`, this one among them.
+    /// were given since `new` or the last `clear`, this one among them. `Tokens` exactly where a
+    /// token is asked for and 64 are out; then nothing changes.
     pub fn give(&mut self, cpu: u16, with_token: bool) -> Result<u32, Refused>
         requires below { cpu < length self.old.uncollected }
         requires free { job_at cpu self.old ≡ None }
@@ -75,14 +76,14 @@ impl Jobs {
 
     /// Collects the processor's job, which it ran with this result and status. The job's token,
     /// where one is out, is finished with them.
-    pub fn collect(&mut self, cpu: u16, result_of: u64, status: Status)
+    pub fn collect(&mut self, cpu: u16, outcome: u64, status: Status)
         requires { IsSome (job_at cpu self.old) }
-        ensures { self.new ≡ collected cpu result_of status self.old }
+        ensures { self.new ≡ collected cpu outcome status self.old }
     {
         let place = usize::from(cpu);
         if let Some(job) = self.uncollected[place] {
             self.uncollected[place] = None;
-            self.tokens.finish(job, result_of, status);
+            self.tokens.finish(job, outcome, status);
         }
     }
 
