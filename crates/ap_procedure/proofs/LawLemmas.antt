@@ -60,7 +60,7 @@ given_or_had (x ∷ rest) (suc cpu) n zero job e = inr e
 given_or_had (x ∷ rest) (suc cpu) n (suc a) job e =
     elim (given_or_had rest cpu n a job e) [ inl here ↦ inl (ap suc here.0, here.1) | inr had ↦ inr had ]
 
-kept_given : (cpu : ℕ) (with_token : Bool) (state : GivenJobs) → AreGiven state → AreGiven (assigned cpu with_token state)
+pub kept_given : (cpu : ℕ) (with_token : Bool) (state : GivenJobs) → AreGiven state → AreGiven (assigned cpu with_token state)
 kept_given cpu with_token state k =
     record {
       numbered = λ a job e. elim (given_or_had state.uncollected cpu (state.given + 1) a job e) [
@@ -80,20 +80,27 @@ kept_given cpu with_token state k =
       rising = rising_issued with_token (record { job = state.given + 1; state = Open cpu }) state.given state.tokens refl k.rising;
     }
 
+pub kept_collected : (cpu : ℕ) (job : Option ℕ) (result : ℕ) (status : Status) (state : GivenJobs) → AreGiven state →
+    AreGiven (record state { uncollected = set state.uncollected cpu None; tokens = with_finished job result status state.tokens })
+kept_collected cpu job result status state k =
+    record {
+      numbered = λ a n e. k.numbered a n (taken_from state.uncollected cpu a n e);
+      one_processor = λ a b n e f. k.one_processor a b n (taken_from state.uncollected cpu a n e) (taken_from state.uncollected cpu b n f);
+      rising = rising_with_finished job result status 0 state.given state.tokens k.rising;
+    }
+
+pub kept_dropped : (job : ℕ) (state : GivenJobs) → AreGiven state → AreGiven (dropped job state)
+kept_dropped job state k =
+    record { numbered = k.numbered; one_processor = k.one_processor; rising = rising_filtered _ 0 state.given state.tokens k.rising }
+
 pub kept : (step : Step) (state : GivenJobs) → MayStep step state → AreGiven state → AreGiven (stepped step state)
 kept (Give cpu with_token) state may k = by_refused (is_refused with_token state)
   where
     by_refused : (b : Bool) → AreGiven (cond b state (assigned cpu with_token state))
     by_refused true = k
     by_refused false = kept_given cpu with_token state k
-kept (Collect cpu result status) state may k =
-    record {
-      numbered = λ a job e. k.numbered a job (taken_from state.uncollected cpu a job e);
-      one_processor = λ a b job e f. k.one_processor a b job (taken_from state.uncollected cpu a job e) (taken_from state.uncollected cpu b job f);
-      rising = rising_with_finished (job_at cpu state) result status 0 state.given state.tokens k.rising;
-    }
-kept (Drop job) state may k =
-    record { numbered = k.numbered; one_processor = k.one_processor; rising = rising_filtered _ 0 state.given state.tokens k.rising }
+kept (Collect cpu result status) state may k = kept_collected cpu (job_at cpu state) result status state k
+kept (Drop job) state may k = kept_dropped job state k
 
 -- ---- tokens
 

@@ -1,6 +1,7 @@
 ghost use Rattle.std.specs.Prelude.{◌≡◌, ◌+◌, ◌<◌, ◌≤◌, ◌-◌, ◌↔◌, true, IsTrue, IsSome, IsErr, IfOk, OnOk, OnErr, length, replicate, vec_len, slice_index_or, slice_set, Some, None};
 ghost use Rattle.ap_procedure.specs.declared.token.Token.{Token};
 ghost use Rattle.ap_procedure.specs.declared.token.TokenState.TheVariants.{Open};
+ghost use Rattle.ap_procedure.specs.Steps.{AreGiven};
 ghost use Rattle.ap_procedure.specs.Given.{no_jobs, job_at, state_of, is_refused, issued, assigned, collected, dropped, IsRising};
 
 use crate::token::{Token, TokenState};
@@ -27,13 +28,14 @@ pub struct Jobs {
 }
 
 impl Model for Jobs {
-    ghost use Rattle.ap_procedure.specs.Given.{GivenJobs, IsRising};
+    ghost use Rattle.ap_procedure.specs.Given.{GivenJobs};
+    ghost use Rattle.ap_procedure.specs.Steps.{AreGiven};
 
     ghost Value = { GivenJobs };
 
     ghost view = { λ j. record { uncollected = j.uncollected.items; tokens = j.tokens; given = j.given } };
 
-    ghost invariant = { λ j. IsRising 0 j.given j.tokens };
+    ghost invariant = { λ j. AreGiven (record { uncollected = j.uncollected.items; tokens = j.tokens; given = j.given }) };
 }
 
 impl Jobs {
@@ -51,7 +53,8 @@ impl Jobs {
     }
 
     /// Gives the processor a job, with a token or without. The answer is the job's number: how many
-    /// were given since `new` or the last `clear`, this one among them.
+    /// were given since `new` or the last `clear`, this one among them. `Tokens` exactly where a
+    /// token is asked for and 64 are out; then nothing changes.
     pub fn give(&mut self, cpu: u16, with_token: bool) -> Result<u32, Refused>
         requires below { cpu < length self.old.uncollected }
         requires free { job_at cpu self.old ≡ None }
@@ -73,12 +76,14 @@ impl Jobs {
 
     /// Collects the processor's job, which it ran with this result and status. The job's token,
     /// where one is out, is finished with them.
-    pub fn collect(&mut self, cpu: u16, result_of: u64, status: Status)
+    pub fn collect(&mut self, cpu: u16, outcome: u64, status: Status)
         requires { IsSome (job_at cpu self.old) }
-        ensures { self.new ≡ collected cpu result_of status self.old }
+        ensures { self.new ≡ collected cpu outcome status self.old }
     {
-        if let Some(job) = take_job(self.uncollected.as_mut_slice(), cpu) {
-            self.tokens.finish(job, result_of, status);
+        let place = usize::from(cpu);
+        if let Some(job) = self.uncollected[place] {
+            self.uncollected[place] = None;
+            self.tokens.finish(job, outcome, status);
         }
     }
 
@@ -114,7 +119,9 @@ impl Jobs {
 
     /// How many tokens are out, at most 64.
     pub fn tokens(&self) -> u32
-        ensures { result ≡ length self.now.tokens }
+        ensures count { result ≡ length self.now.tokens }
+        ensures few { length self.now.tokens ≤ 64 }
+        ensures given { AreGiven self.now }
     {
         self.tokens.len() as u32
     }
@@ -142,16 +149,6 @@ fn job_in(jobs: &[Option<u32>], cpu: u16) -> Option<u32>
         Some(job) => *job,
         None => None,
     }
-}
-
-fn take_job(jobs: &mut [Option<u32>], cpu: u16) -> Option<u32>
-    requires { cpu < length jobs.old }
-    ensures job { result ≡ slice_index_or jobs.old cpu None }
-    ensures taken { jobs.new ≡ slice_set jobs.old cpu None }
-{
-    let job = jobs[usize::from(cpu)];
-    jobs[usize::from(cpu)] = None;
-    job
 }
 
 fn issue(tokens: &mut Tokens, with_token: bool, job: u32, cpu: u16)

@@ -70,8 +70,8 @@ impl Tokens {
     }
 
     /// The token of this job, where one is out, tells this result and status from now on.
-    pub fn finish(&mut self, job: u32, result_of: u64, status: Status)
-        ensures { self.new ≡ map (finished job result_of status) self.old }
+    pub fn finish(&mut self, job: u32, outcome: u64, status: Status)
+        ensures { self.new ≡ map (finished job outcome status) self.old }
     {
         if let Some(key) = key_of(&self.slab, self.order.as_slice(), job) {
             set(
@@ -80,7 +80,7 @@ impl Tokens {
                 Token {
                     job,
                     state: TokenState::Finished {
-                        result: result_of,
+                        result: outcome,
                         status,
                     },
                 },

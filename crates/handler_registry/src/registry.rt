@@ -78,7 +78,8 @@ impl Registry {
     }
 
     /// Registers the handler at this place as the last of its list, under the next serial number,
-    /// which is the answer: 1 at first.
+    /// which is the answer: 1 at first. `Full` exactly where 64 are live or 4,294,967,295 were
+    /// registered so far; then nothing changes.
     pub fn register(&mut self, kind: HandlerType, handler: u16) -> Result<u32, Full>
         ensures serial { IfOk result (λ serial. serial ≡ self.old.last + 1) }
         ensures registered { OnOk result (self.new ≡ registered kind handler self.old) }
@@ -100,7 +101,8 @@ impl Registry {
     }
 
     /// Takes the registration with this serial number out. It is not called any more, and its
-    /// serial number is not given again.
+    /// serial number is not given again. `Unknown` exactly where no live registration has it; then
+    /// nothing changes.
     pub fn unregister(&mut self, serial: u32) -> Result<(), Unknown>
         ensures unregistered { OnOk result (self.new ≡ unregistered serial self.old) }
         ensures known { OnOk result (IsTrue (is_live serial self.old)) }

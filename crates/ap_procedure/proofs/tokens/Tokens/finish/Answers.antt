@@ -19,18 +19,18 @@ pub invariant_of-self : goal.invariant_of-self
 invariant_of-self c =
     let i = c.self.inside in
     let found : find (is_at i.slab c.args.job) i.order.items ≡ Some c.in-Some.key = rw (← c.as_slice.ensures.value) (sym c.key_of.ensures ∙ c.in-Some.is) in
-    kept_finished i.slab c.set.new.slab c.in-Some.key c.args.job c.args.result_of c.args.status i.order.items (vec_capacity i.order) c.self.invariant found c.set.ensures.updates c.set.ensures.len c.set.ensures.capacity
+    kept_finished i.slab c.set.new.slab c.in-Some.key c.args.job c.args.outcome c.args.status i.order.items (vec_capacity i.order) c.self.invariant found c.set.ensures.updates c.set.ensures.len c.set.ensures.capacity
 
 pub returns-in-Some : goal.returns-in-Some
 returns-in-Some c =
     let i = c.self.inside in
     let found : find (is_at i.slab c.args.job) i.order.items ≡ Some c.in-Some.key = rw (← c.as_slice.ensures.value) (sym c.key_of.ensures ∙ c.in-Some.is) in
-    subst (λ (s : List Token). values_at c.set.new.slab i.order.items ≡ map (finished c.args.job c.args.result_of c.args.status) s) c.self.view_is
-    (shown_finished i.slab c.set.new.slab c.in-Some.key c.args.job c.args.result_of c.args.status i.order.items (vec_capacity i.order) c.self.invariant found c.set.ensures.updates)
+    subst (λ (s : List Token). values_at c.set.new.slab i.order.items ≡ map (finished c.args.job c.args.outcome c.args.status) s) c.self.view_is
+    (shown_finished i.slab c.set.new.slab c.in-Some.key c.args.job c.args.outcome c.args.status i.order.items (vec_capacity i.order) c.self.invariant found c.set.ensures.updates)
 
 pub returns-in_default : goal.returns-in_default
 returns-in_default c =
     let i = c.self.inside in
     let none : find (is_at i.slab c.args.job) i.order.items ≡ None = rw (← c.as_slice.ensures.value) (sym c.key_of.ensures ∙ c.in_default.is) in
-    subst (λ (s : List Token). s ≡ map (finished c.args.job c.args.result_of c.args.status) s) c.self.view_is
-    (shown_unfinished i.slab i.order.items c.args.job c.args.result_of c.args.status none)
+    subst (λ (s : List Token). s ≡ map (finished c.args.job c.args.outcome c.args.status) s) c.self.view_is
+    (shown_unfinished i.slab i.order.items c.args.job c.args.outcome c.args.status none)
