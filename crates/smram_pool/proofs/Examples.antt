@@ -1,6 +1,5 @@
 -- Worked requests, each computed by the definition alone.
-use Rattle.std.proofs.Common.{◌≡◌, ℕ, List, [], ◌∷◌, Result, Ok, Err, refl}
-use Rattle.smram_pool.specs.declared.error.PoolError.{PoolError}
+use Rattle.std.proofs.Common.{◌≡◌, [], ◌∷◌, Ok, Err, refl}
 use Rattle.smram_pool.specs.declared.error.PoolError.TheVariants.{Zero, OutOfResources, NotABlock}
 use Rattle.smram_pool.specs.State.{PoolState, fresh, allocated, freed, pages_allocated, pages_freed}
 

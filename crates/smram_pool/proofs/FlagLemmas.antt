@@ -1,5 +1,5 @@
 -- Flags of pages against the list of the free ones.
-use Rattle.std.proofs.Common.{◌≡◌, ℕ, zero, suc, ◌+◌, ◌-◌, ◌*◌, ◌<◌, ◌≤◌, Bool, true, false, cond, ◌&&◌, eqb, ltb, List, [], ◌∷◌, ◌++◌, Option, Some, None, option_map, length, get_or, drop, refl, sym, ap, subst, ◌∙◌, arith, inl, inr, add-one, add-zero, length-append, replicate, IfSome}
+use Rattle.std.proofs.Common.{◌≡◌, ℕ, zero, suc, ◌+◌, ◌-◌, ◌*◌, ◌<◌, ◌≤◌, Bool, true, false, cond, eqb, ltb, List, [], ◌∷◌, ◌++◌, Option, Some, None, option_map, length, get_or, drop, refl, sym, ap, subst, ◌∙◌, arith, inl, inr, add-one, add-zero, length-append, replicate, IfSome}
 use Rattle.std.proofs.Math.ListN.{set}
 use Rattle.std.proofs.Math.Nat.{suc-add}
 use Rattle.std.proofs.lemmas.List.{length-set, get_or-set_other}

@@ -1,5 +1,6 @@
 pub mod FlagLemmas
 pub mod MarkLemmas
+pub mod OrderLemmas
 pub mod MeasureLemmas
 pub mod TakingLemmas
 pub mod WellFormedLemmas

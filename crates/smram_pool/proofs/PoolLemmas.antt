@@ -1,5 +1,5 @@
 -- What each change of the pool's parts makes of its state.
-use Rattle.std.proofs.Common.{◌≡◌, ℕ, zero, suc, ◌+◌, ◌-◌, ◌*◌, ◌/◌, ◌%◌, ◌^◌, ◌<◌, ◌≤◌, Bool, true, false, cond, eqb, List, [], ◌∷◌, Option, Some, None, IfSome, length, get_or, refl, sym, ap, subst, ◌∙◌, arith, inl, inr, replicate}
+use Rattle.std.proofs.Common.{◌≡◌, ℕ, zero, suc, ◌+◌, ◌-◌, ◌*◌, ◌/◌, ◌%◌, ◌^◌, ◌<◌, ◌≤◌, Bool, true, eqb, List, [], ◌∷◌, Option, Some, None, length, get_or, refl, sym, ap, subst, ◌∙◌, arith, inl, inr, replicate}
 use Rattle.std.proofs.Math.ListN.{set}
 use Rattle.std.proofs.lemmas.List.{length-set, length-replicate, get_or-set_same, get_or-set_other}
 use Rattle.std.proofs.lemmas.Bool.{cases_Bool, cases_eq, eqb-true}
@@ -11,7 +11,7 @@ use Rattle.smram_pool.specs.Views.{marked, free_from, filled}
 use Rattle.smram_pool.specs.Partition.{IsClass, IsCount, IsWellFormed}
 use Rattle.smram_pool.specs.Together.{state_at, Holds}
 use Rattle.smram_pool.proofs.FlagLemmas.{free_run, AreBusy, filled_length}
-use Rattle.smram_pool.proofs.MarkLemmas.{marked-put, marked-found, marked-missing, marked-without}
+use Rattle.smram_pool.proofs.MarkLemmas.{marked-put, marked-found, marked-without}
 use Rattle.smram_pool.proofs.TakingLemmas.{list_at, lists_set}
 use Rattle.smram_pool.proofs.WellFormedLemmas.{found_is, keeps_class, keeps_count, keeps_block_freed, keeps_run_freed, fresh_is}
 use Rattle.smram_pool.proofs.RangeLemmas.{taken_within, taken_vacant, run_vacant, piece_within, live_piece, run_piece, some_size, run_busy, room_for}

@@ -1,12 +1,12 @@
 -- What the pieces of a well-formed pool say of single places.
-use Rattle.std.proofs.Common.{◌≡◌, ℕ, zero, suc, ◌+◌, ◌-◌, ◌*◌, ◌/◌, ◌^◌, ◌<◌, ◌≤◌, Bool, true, false, cond, ◌&&◌, eqb, ltb, leb, List, [], ◌∷◌, ◌++◌, Option, Some, None, IfSome, length, get_or, refl, sym, ap, subst, ◌∙◌, arith, inl, inr, add-zero}
+use Rattle.std.proofs.Common.{◌≡◌, ℕ, zero, suc, ◌+◌, ◌-◌, ◌*◌, ◌^◌, ◌<◌, ◌≤◌, Bool, true, false, cond, ltb, leb, List, [], ◌∷◌, Option, Some, None, length, get_or, refl, sym, ap, ◌∙◌, arith, inl, inr, add-zero}
 use Rattle.std.specs.Prelude.{count_by}
 use Rattle.std.proofs.lemmas.Bool.{cases_Bool, cases_lt, lt-ltb, le-ltb, le-leb, lt-leb}
 use Rattle.std.proofs.Math.Nat.{zero-mul, suc-mul}
 use Rattle.std.proofs.lemmas.List.Sums.{sum_by-cons}
-use Rattle.smram_pool.specs.State.{PoolState, Taken, block_size, found, without, run_taken, block_taken}
+use Rattle.smram_pool.specs.State.{PoolState, Taken, block_size, found, run_taken, block_taken}
 use Rattle.smram_pool.specs.Views.{free_from}
-use Rattle.smram_pool.specs.Partition.{Piece, block_pieces, pieces, is_within, IsPartition, IsMeasure, measured, IsClass, IsCount, Each, IsWellFormed}
+use Rattle.smram_pool.specs.Partition.{Piece, block_pieces, pieces, is_within, IsPartition, IsMeasure, measured, IsClass, IsCount, IsWellFormed}
 use Rattle.smram_pool.proofs.MeasureLemmas.{sized, page_pieces, class_pieces, measured_append, measured_pieces, measured_taken, IsSplit, free_measure, split_block}
 use Rattle.smram_pool.proofs.WellFormedLemmas.{at_found, found_is, measured_found}
 

@@ -1,10 +1,10 @@
 -- How a block is taken, case by case.
-use Rattle.std.proofs.Common.{◌≡◌, ℕ, zero, suc, ◌+◌, ◌-◌, ◌*◌, ◌/◌, ◌%◌, ◌^◌, ◌<◌, ◌≤◌, List, [], ◌∷◌, map, Option, Some, None, option_map, length, get_or, refl, sym, ap, subst, ◌∙◌, arith, sub-one}
+use Rattle.std.proofs.Common.{◌≡◌, ℕ, zero, suc, ◌+◌, ◌-◌, ◌*◌, ◌^◌, ◌<◌, ◌≤◌, List, [], ◌∷◌, Option, Some, None, option_map, length, get_or, refl, sym, ap, subst, ◌∙◌, arith}
 use Rattle.std.proofs.Math.ListN.{set}
 use Rattle.std.proofs.Math.Nat.{one-le-pow, le-mul_of_pos_right}
-use Rattle.std.proofs.lemmas.List.{map-set, set-get_or, get_or-set_other, get_or_default}
+use Rattle.std.proofs.lemmas.List.{map-set, set-get_or, get_or-set_other}
 use Rattle.smram_pool.specs.Shelf.{Shelf, IsBlock, first, rest}
-use Rattle.smram_pool.specs.Shelves.{lists_of, no_shelf, AreShelves}
+use Rattle.smram_pool.specs.Shelves.{lists_of}
 use Rattle.smram_pool.specs.State.{Taken, block_size, page_taken, halved, first_or_half, block_taken}
 use Rattle.smram_pool.specs.Taking.{place_taken, blocks_left, pages_left}
 

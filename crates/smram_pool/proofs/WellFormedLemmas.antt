@@ -1,10 +1,9 @@
 -- Every request leaves a pool well formed.
 use Rattle.std.proofs.Common.{◌≡◌, ℕ, zero, suc, ◌+◌, ◌-◌, ◌*◌, ◌<◌, ◌≤◌, Bool, true, false, cond, eqb, ltb, leb, List, [], ◌∷◌, Option, Some, None, IfSome, length, get_or, refl, sym, ap, subst, ◌∙◌, arith, inl, inr}
-use Rattle.std.proofs.Math.ListN.{set}
 use Rattle.std.proofs.lemmas.List.{length-set}
 use Rattle.std.proofs.lemmas.Bool.{cases_Bool, cases_lt, eqb-true, eqb-false}
-use Rattle.smram_pool.specs.State.{PoolState, Taken, block_size, class_for, pages_for, put, found, without, put_pages, run_taken, block_taken, block_allocated, run_allocated, pages_allocated, allocated, block_freed, run_freed, freed_at, freed_block, freed, freed_run, pages_freed, pages_from, fresh}
-use Rattle.smram_pool.specs.Partition.{block_pieces, pieces, IsMeasure, measured, IsClass, IsCount, Each, IsWellFormed}
+use Rattle.smram_pool.specs.State.{PoolState, Taken, block_size, class_for, pages_for, put, found, without, run_taken, block_taken, block_allocated, run_allocated, pages_allocated, allocated, block_freed, run_freed, freed_at, freed_block, freed, freed_run, pages_freed, pages_from, fresh}
+use Rattle.smram_pool.specs.Partition.{IsMeasure, measured, IsClass, IsCount, Each, IsWellFormed}
 use Rattle.smram_pool.proofs.MeasureLemmas.{sized, page_pieces, measured_pieces, measured_put, measured_without, measure_none, measure_pages, measured_put_pages, measured_taken, measured_block_put, IsSplit, free_measure, split_block}
 
 each_put : (P : ℕ → Type 0) (place amount : ℕ) (es : List (ℕ × ℕ)) → P amount → Each P es → Each P (put place amount es)

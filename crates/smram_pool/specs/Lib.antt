@@ -1,4 +1,5 @@
 pub mod Inside
+pub mod Order
 pub mod Partition
 pub mod Shelf
 pub mod Shelves

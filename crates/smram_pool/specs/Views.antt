@@ -1,5 +1,5 @@
 -- What the arrays of the code stand for.
-use Rattle.std.specs.Prelude.{ℕ, zero, suc, ◌+◌, ◌-◌, Bool, true, false, ◌&&◌, cond, List, [], ◌∷◌, Option, Some, None, option_map}
+use Rattle.std.specs.Prelude.{ℕ, zero, suc, ◌+◌, Bool, true, false, ◌&&◌, cond, List, [], ◌∷◌, Option, Some, None, option_map}
 
 -- the marks with their places, where the places of an array's items are this far apart
 abbrev pub marked : ℕ → ℕ → List (Option ℕ) → List (ℕ × ℕ)

@@ -76,9 +76,11 @@ fn all_free(alloc: Global, count: usize) -> Result<Vec<bool>, NoMemory>
 
 impl Pool {
     ghost use Rattle.smram_pool.specs.State.{allocated, freed, pages_allocated, pages_freed, fresh};
-    ghost use Rattle.smram_pool.specs.Partition.{IsPartition};
+    ghost use Rattle.smram_pool.specs.Order.{IsInOrder};
+    ghost use Rattle.smram_pool.specs.Partition.{IsPartition, IsWellFormed};
 
-    /// `pages` free pages of 4,096 bytes from `start`.
+    /// A pool of `pages` free pages of 4,096 bytes from the address `start`: at most 2,048 pages, or none, from a
+    /// multiple of 4,096 below 2^63. It is refused only for want of memory. No other call takes memory.
     pub fn new(alloc: Global, start: u64, pages: u32) -> Result<Pool, NoMemory>
         requires few { pages ≤ 2048 }
         requires begins { start % 4096 ≡ 0 }
@@ -99,16 +101,21 @@ impl Pool {
         })
     }
 
-    /// The first byte of the range.
+    /// The address of the first byte of the range.
     pub fn start(&self) -> u64
         ensures value { result ≡ self.now.start }
+
+        // After any calls each byte of the range is in exactly one free block, live block, free page or live run.
         ensures partition { IsPartition self.now }
+        ensures well_formed { IsWellFormed self.now }
+        ensures order { IsInOrder self.now }
     {
         self.start
     }
 
-    /// Takes a block of at least `size` bytes, or for more than 2,048 bytes a run of whole pages, and gives its place.
-    /// `Zero` where the size is 0; `OutOfResources` where there is no place for it. A refusal changes nothing.
+    /// Takes a block of the least class that holds `size` bytes, or for more than 2,048 bytes a run of whole pages, and
+    /// gives its address. `Zero` where the size is 0; `OutOfResources` where there is no place for it. A refusal changes
+    /// nothing.
     pub fn alloc(&mut self, size: u64) -> Result<u64, PoolError>
         ensures answer { result ≡ (allocated size self.old).0 }
         ensures after { self.new ≡ (allocated size self.old).1 }
@@ -122,7 +129,7 @@ impl Pool {
         self.take_run(pages_for(size))
     }
 
-    /// Frees the live block or the whole live run that starts at a place.
+    /// Frees the live block or the whole live run that starts at the address `place`.
     /// `NotABlock` where neither starts there; then nothing changes.
     pub fn free(&mut self, place: u64) -> Result<(), PoolError>
         ensures answer { result ≡ (freed place self.old).0 }
@@ -141,7 +148,7 @@ impl Pool {
         }
     }
 
-    /// Takes a run of `count` whole pages and gives its place.
+    /// Takes the run of `count` free pages with the lowest address and gives that address.
     /// `Zero` where the count is 0; `OutOfResources` where no run of so many pages is free. A refusal changes nothing.
     pub fn alloc_pages(&mut self, count: u32) -> Result<u64, PoolError>
         ensures answer { result ≡ (pages_allocated count self.old).0 }

@@ -1,8 +1,8 @@
-use Rattle.std.proofs.Common.{◌≡◌, ◌+◌, ◌*◌, ◌%◌, ◌^◌, ◌<◌, ◌≤◌, IfSome, OnSome, length, ℕ, suc, ◌-◌, List, [], ◌∷◌, Option, Some, None, option_map, get_or, refl, sym, ap, subst, ◌∙◌, arith}
+use Rattle.std.proofs.Common.{◌≡◌, ◌+◌, ◌*◌, ◌^◌, ◌<◌, length, ℕ, suc, ◌-◌, List, [], ◌∷◌, Option, Some, None, option_map, get_or, refl, sym, ap, subst, ◌∙◌, arith}
 use Rattle.std.proofs.Math.ListN.{set}
 use Rattle.std.proofs.lemmas.List.{get_or_default}
-use Rattle.smram_pool.specs.Shelf.{Shelf, IsBlock, first, rest}
-use Rattle.smram_pool.specs.Shelves.{lists_of, no_shelf, AreShelves}
+use Rattle.smram_pool.specs.Shelf.{Shelf, IsBlock, rest}
+use Rattle.smram_pool.specs.Shelves.{lists_of, no_shelf}
 use Rattle.smram_pool.specs.State.{Taken, block_size, block_taken, halved}
 use Rattle.smram_pool.specs.Taking.{place_taken, blocks_left, pages_left}
 use Rattle.smram_pool.specs.Views.{free_from}

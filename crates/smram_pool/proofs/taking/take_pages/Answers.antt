@@ -1,8 +1,7 @@
-use Rattle.std.proofs.Common.{◌≡◌, ◌+◌, ◌*◌, ◌≤◌, ℕ, Some, None, Option, List, length, refl, sym, ap, ◌∙◌, arith}
-use Rattle.smram_pool.specs.Views.{first_run, filled, free_from}
+use Rattle.std.proofs.Common.{◌≡◌, ℕ, Some, None, refl, ap, ◌∙◌}
+use Rattle.smram_pool.specs.Views.{first_run, free_from}
 use Rattle.smram_pool.specs.State.{run_taken}
-use Rattle.smram_pool.specs.Taking.{run_place, run_left}
-use Rattle.smram_pool.proofs.FlagLemmas.{run_found, taken_at, filled_length}
+use Rattle.smram_pool.proofs.FlagLemmas.{run_found, taken_at}
 use Rattle.smram_pool.proofs.taking.take_pages.Goals as goal
 
 pub returns-in_err-index-clause-run : goal.returns-in_err-index-clause-run
