@@ -23,6 +23,8 @@ HERE = pathlib.Path(__file__).resolve().parent
 OUT = HERE.parent / "crates" / "smmplay" / "out"
 SIMULATOR = [sys.executable, str(HERE.parent / "reference" / "smmplay.py"), "--all"]
 TIMER = shutil.which("time")
+# so many events more, and what they cost stands out of the noise
+ENOUGH = 4000
 
 
 @dataclass
@@ -93,7 +95,7 @@ def per_event(run, few):
     """What one event more costs. Where all of them take less than a fifth of the shorter run, that is noise and not
     told."""
     more = run.events - few.events
-    if more < 100 or run.status:
+    if more < ENOUGH or run.status:
         return ""
     seconds = run.seconds - few.seconds
     each = f"{seconds / more * 1e9:.0f} ns" if seconds > few.seconds / 5 else "time within the noise"
