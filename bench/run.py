@@ -23,6 +23,8 @@ HERE = pathlib.Path(__file__).resolve().parent
 OUT = HERE.parent / "crates" / "smmplay" / "out"
 SIMULATOR = [sys.executable, str(HERE.parent / "reference" / "smmplay.py"), "--all"]
 TIMER = shutil.which("time")
+# so many events more, and what they cost stands out of the noise
+ENOUGH = 4000
 
 
 @dataclass
@@ -66,12 +68,22 @@ def timed(command, folder):
     return time.perf_counter() - begin, done.returncode
 
 
-def measure(program, words, folder, turns):
-    command = [*program, "step", *words, "after.smi"]
-    runs = [timed(command, folder) for _ in range(turns)]
-    last = (folder / "report.txt").read_bytes().splitlines()[-1].split()
-    events = int(last[2]) if len(last) > 2 and last[1] == b"events" else 0
-    return Run(min(run[0] for run in runs), peak_of(command, folder), runs[0][1], events)
+def measure_all(program, inputs, folder, turns):
+    """A run of each input. The turns go round the inputs, so that what else the machine does falls on all alike."""
+    commands = [[*program, "step", *words, "after.smi"] for words in inputs]
+    rounds = [[timed(command, folder) for command in commands] for _ in range(turns)]
+    runs = []
+    for command, turns_of_one in zip(commands, zip(*rounds)):
+        peak = peak_of(command, folder)
+        least = min(seconds for seconds, _ in turns_of_one)
+        runs.append(Run(least, peak, turns_of_one[0][1], events_of(folder / "report.txt")))
+    return runs
+
+
+def events_of(report):
+    """The number of events that the last line of a report tells; 0 of a refusal."""
+    last = report.read_bytes().splitlines()[-1].split()
+    return int(last[2]) if len(last) > 2 and last[1] == b"events" else 0
 
 
 def row(name, player, run, more=""):
@@ -80,21 +92,22 @@ def row(name, player, run, more=""):
 
 
 def per_event(run, few):
-    """What one event more costs, where there are enough more."""
+    """What one event more costs. Where all of them take less than a fifth of the shorter run, that is noise and not
+    told."""
     more = run.events - few.events
-    if more < 100 or run.status:
+    if more < ENOUGH or run.status:
         return ""
-    each = (run.seconds - few.seconds) / more * 1e9
-    return f"{each:.0f} ns, {(run.peak - few.peak) * 1024 / more:.0f} bytes"
+    seconds = run.seconds - few.seconds
+    each = f"{seconds / more * 1e9:.0f} ns" if seconds > few.seconds / 5 else "time within the noise"
+    return f"{each}, {(run.peak - few.peak) * 1024 / more:.0f} bytes"
 
 
 def growth(player, program, folder, turns):
     """The same platform with more and more events."""
-    few = None
-    for looks in LOOKS:
-        run = measure(program, ["looks.toml", "one.smi", f"looks_{looks}.txt"], folder, turns)
-        few = few or run
-        row(f"one processor, {looks} looks before it comes", player, run, per_event(run, few))
+    inputs = [["looks.toml", "one.smi", f"looks_{looks}.txt"] for looks in LOOKS]
+    runs = measure_all(program, inputs, folder, turns)
+    for looks, run in zip(LOOKS, runs):
+        row(f"one processor, {looks} looks before it comes", player, run, per_event(run, runs[0]))
 
 
 def many_processors(player, program, folder, turns):
@@ -102,20 +115,19 @@ def many_processors(player, program, folder, turns):
     (folder / "empty.txt").write_text("")
     for n, waves in MANY:
         files = [f"many_{n}_{waves}.toml", f"images_{n}.smi"]
-        few = measure(program, [*files, "empty.txt"], folder, turns)
-        run = measure(program, [*files, f"many_{n}_{waves}.txt"], folder, turns)
+        inputs = [[*files, "empty.txt"], [*files, f"many_{n}_{waves}.txt"]]
+        few, run = measure_all(program, inputs, folder, turns)
         row(f"{n} processors, {waves} waves", player, run, per_event(run, few))
 
 
 def large_files(player, program, folder, turns):
-    for actors in ACTORS:
-        row(f"a schedule of {actors} actors", player,
-            measure(program, ["one.toml", "one.smi", f"schedule_{actors}.txt"], folder, turns))
+    """Large schedules, a large platform file, and an image file of the wrong count."""
+    inputs = {f"a schedule of {n} actors": ["one.toml", "one.smi", f"schedule_{n}.txt"] for n in ACTORS}
     size = (folder / "large.toml").stat().st_size
-    row(f"a platform file of {size} bytes", player,
-        measure(program, ["large.toml", "one.smi", "schedule_41943.txt"], folder, turns))
-    row("64 images for one processor", player,
-        measure(program, ["one.toml", "full.smi", "schedule_41943.txt"], folder, turns))
+    inputs[f"a platform file of {size} bytes"] = ["large.toml", "one.smi", "schedule_41943.txt"]
+    inputs["64 images for one processor"] = ["one.toml", "full.smi", "schedule_41943.txt"]
+    for name, run in zip(inputs, measure_all(program, inputs.values(), folder, turns)):
+        row(name, player, run)
 
 
 def main():
@@ -123,7 +135,7 @@ def main():
     players = [(name, words) for name, words in players if pathlib.Path(words[0]).is_file()]
     if not players:
         sys.exit("build the program first: run ./smmplay once")
-    turns = 3 if "--quick" in sys.argv else 15
+    turns = 5 if "--quick" in sys.argv else 40
     print("| input | player | status | events | time | peak | each event more |\n|---|---|---|---|---|---|---|")
     with tempfile.TemporaryDirectory() as name:
         folder = pathlib.Path(name)
@@ -132,7 +144,7 @@ def main():
             for part in (growth, many_processors, large_files):
                 part(player, program, folder, turns)
         for part in (growth, many_processors):
-            part("simulator", SIMULATOR, folder, 3)
+            part("simulator", SIMULATOR, folder, max(5, turns // 4))
 
 
 if __name__ == "__main__":

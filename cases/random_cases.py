@@ -178,7 +178,8 @@ def toml_of(tree, draw):
         for entry in value if isinstance(value, list) else [value]:
             lines += ["", f"[[{key}]]" if isinstance(value, list) else f"[{key}]"]
             lines += [f"{name} = {toml_value(item)}" for name, item in entry.items()]
-    return "\n".join(lines) + draw.choice(["\n", "", "\n# the end\n"])
+    text = "\n".join(lines) + draw.choice(["\n", "", "\n# the end\n"])
+    return text.replace("\n", "\r\n") if draw.random() < 0.05 else text
 
 
 def toml_value(value):

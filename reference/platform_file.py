@@ -3,6 +3,7 @@
 The walk takes the top table first, and then `smram`, the waves, the handlers, the procedures and the causes. In a
 table it takes the keys in their order, and after them the first other key by byte order.
 """
+import math
 import re
 import tomllib
 
@@ -167,10 +168,18 @@ def is_within_64_bits(value):
     return not is_number(value) or -(2**63) <= value < 2**63
 
 
+def finite(text):
+    """A float of a document; one that is written in digits isn't infinite."""
+    value = float(text)
+    if math.isinf(value) and "inf" not in text:
+        raise ValueError
+    return value
+
+
 def document(data):
-    """The document of a file's bytes."""
+    """The document of a file's bytes, without a byte order mark."""
     try:
-        value = tomllib.loads(data.decode())
+        value = tomllib.loads(data.decode().removeprefix("\ufeff"), parse_float=finite)
         if not is_within_64_bits(value):
             raise ValueError
     except (ValueError, RecursionError):
