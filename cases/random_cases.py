@@ -58,7 +58,7 @@ def platform_tree(draw, is_built):
         tree["ids"] = draw.sample([0, 1, 2, 3, 17, 2**31, 2**63 - 1, *range(100, 164)], n)
     if not is_built:
         spread(draw, tree)
-    if draw.random() < 0.4 and (built.SMRAM_IS_BUILT or not is_built):
+    if draw.random() < 0.4:
         tree["smram"] = area(draw, tree["processors"])
     count = 1 if is_built else draw.randint(1, min(visits, 3))
     tree["wave"] = [wave(draw, n, is_built) for _ in range(count)]

@@ -4,9 +4,6 @@ This is the one place to change as the program grows. A right platform that isn'
 line `fault not-built NAME` and status 9.
 """
 
-# Whether the program judges the layout of an area for save states and relocates the processors.
-SMRAM_IS_BUILT = False
-
 # The operations of handlers that the program plays.
 OPERATIONS = {"write"}
 
@@ -18,7 +15,6 @@ def is_built(platform):
         platform.processors == 1
         and platform.policy == "elected"
         and platform.mode == "traditional"
-        and (platform.smram is None or SMRAM_IS_BUILT)
         and [(wave.status, wave.manage) for wave in platform.waves] == [(["prompt"], ["root"])]
         and len(platform.handlers) <= 1
         and all(is_built_handler(handler) for handler in platform.handlers)

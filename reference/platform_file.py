@@ -187,7 +187,7 @@ def document(data):
     return value
 
 
-def read_platform(data, judges_layout=True):
+def read_platform(data):
     """The platform of a file's bytes, or PlatformFault with its first fault."""
     top = Table("", document(data))
     platform, lists = read_top(top)
@@ -199,7 +199,7 @@ def read_platform(data, judges_layout=True):
     read_causes(platform, lists["cause"])
     if platform.events() > MOST_EVENTS:
         raise PlatformFault(f"too-large {platform.events()}")
-    if platform.smram and judges_layout:
+    if platform.smram:
         judge_layout(platform)
     return platform
 

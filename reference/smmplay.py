@@ -57,7 +57,7 @@ def report_of(world):
 def load_platform(name, plays_all):
     data = load(name, PLATFORM_LIMIT)
     try:
-        platform = read_platform(data, plays_all or built.SMRAM_IS_BUILT)
+        platform = read_platform(data)
     except PlatformFault as fault:
         raise Fault(2, f"platform {fault}") from None
     if not plays_all and not built.is_built(platform):
