@@ -1,4 +1,5 @@
--- Why an input file is refused: the exit status, and the line that tells it. Both are the project's own.
+-- Why an input file is refused: the exit status, and the line that tells it. Both are the project's own, as the lines of the
+-- other faults are.
 use Rattle.std.specs.Prelude.{ℕ, List, [], ◌∷◌, ◌++◌, codes, decimal, ℤ}
 use Rattle.std.specs.Fmt.{signed_decimal}
 use Rattle.image_file.specs.declared.error.ImagesError.{ImagesError}
@@ -11,17 +12,22 @@ use Rattle.smm_player.specs.declared.images.ImagesFault.{ImagesFault}
 use Rattle.smm_player.specs.declared.images.ImagesFault.TheVariants as images
 use Rattle.smm_player.specs.declared.refusal.Refusal.{Refusal}
 use Rattle.smm_player.specs.declared.refusal.Refusal.TheVariants.{Read, TooLong, Platform, Images, Schedule, NotBuilt}
-use Rattle.smm_player.specs.Files.{limit_text}
-use Rattle.smm_player.specs.Words.{name_of}
 
 -- the exit status of a refused input file
 abbrev pub refusal_status : Refusal → ℕ
-refusal_status (Read input) = 6
-refusal_status (TooLong input) = 6
+refusal_status (Read name) = 6
+refusal_status (TooLong name limit) = 6
 refusal_status (Platform error) = 2
 refusal_status (Images fault) = 3
 refusal_status (Schedule error) = 4
-refusal_status (NotBuilt input) = 9
+refusal_status (NotBuilt name) = 9
+
+-- the line for words that are of no command's form, and the one for want of memory; each ends with the byte 0AH
+abbrev pub usage_line : List ℕ
+usage_line = codes "fault usage" ++ 10 ∷ []
+
+abbrev pub memory_line : List ℕ
+memory_line = codes "fault memory" ++ 10 ∷ []
 
 -- a line of a text and a key
 abbrev pub keyed : List ℕ → List ℕ → List ℕ
@@ -30,10 +36,6 @@ keyed front key = front ++ key ++ 10 ∷ []
 -- a line of a text and a number
 abbrev pub numbered : List ℕ → ℕ → List ℕ
 numbered front number = front ++ decimal number ++ 10 ∷ []
-
--- the line that tells of no memory
-abbrev pub memory_line : List ℕ
-memory_line = codes "fault memory" ++ 10 ∷ []
 
 -- the line of a number of the platform file, which may be negative
 abbrev pub range_line : List ℕ → ℤ → List ℕ
@@ -60,11 +62,11 @@ image_file_line (file.Count count) = numbered (codes "fault images count ") coun
 image_file_line (file.Long length) = numbered (codes "fault images long ") length
 image_file_line file.NoMemory = memory_line
 
--- the line that tells why the image file doesn't serve; each platform that is built has one processor
+-- the line that tells why the image file doesn't serve
 abbrev pub images_line : ImagesFault → List ℕ
 images_line (images.File error) = image_file_line error
 images_line images.KindDiffers = codes "fault images kind-differs" ++ 10 ∷ []
-images_line (images.CountDiffers count) = numbered (codes "fault images count-differs 1 ") count
+images_line (images.CountDiffers processors count) = codes "fault images count-differs " ++ decimal processors ++ codes " " ++ decimal count ++ 10 ∷ []
 
 -- the line of an actor that the platform hasn't, behind the byte at which its item starts
 abbrev pub actor_line : ℕ → ℕ → List ℕ
@@ -77,11 +79,15 @@ schedule_line (schedule.Actor at actor) = actor_line at actor
 schedule_line schedule.TooLong = codes "fault schedule too-long" ++ 10 ∷ []
 schedule_line schedule.NoMemory = memory_line
 
+-- the line of a file that is longer than its limit
+abbrev pub too_long_line : List ℕ → ℕ → List ℕ
+too_long_line name limit = codes "fault too-long " ++ name ++ codes " " ++ decimal limit ++ 10 ∷ []
+
 -- the line that tells why an input file is refused, with the line end 0AH
-abbrev pub refusal_line : List (List ℕ) → Refusal → List ℕ
-refusal_line words (Read input) = codes "fault read " ++ name_of words input ++ 10 ∷ []
-refusal_line words (TooLong input) = codes "fault too-long " ++ name_of words input ++ limit_text input
-refusal_line words (Platform error) = platform_line error
-refusal_line words (Images fault) = images_line fault
-refusal_line words (Schedule error) = schedule_line error
-refusal_line words (NotBuilt input) = codes "fault not-built " ++ name_of words input ++ 10 ∷ []
+abbrev pub refusal_line : Refusal → List ℕ
+refusal_line (Read name) = keyed (codes "fault read ") name
+refusal_line (TooLong name limit) = too_long_line name limit
+refusal_line (Platform error) = platform_line error
+refusal_line (Images fault) = images_line fault
+refusal_line (Schedule error) = schedule_line error
+refusal_line (NotBuilt name) = keyed (codes "fault not-built ") name

@@ -1,11 +1,7 @@
-ghost use Rattle.std.specs.Prelude.{◌≡◌, ◌++◌, [], ◌∷◌, IfOk, decimal, map, string_bytes};
-ghost use Rattle.smm_player.specs.Files.{limit_text};
-ghost use Rattle.smm_player.specs.Refusal.{refusal_status, refusal_line, platform_line, image_file_line, images_line, schedule_line, actor_line, range_line, keyed, numbered};
-ghost use Rattle.smm_player.specs.Words.{texts};
+ghost use Rattle.std.specs.Prelude.{◌≡◌, ◌++◌, [], ◌∷◌, IfOk, codes, decimal};
+ghost use Rattle.smm_player.specs.Refusal.{refusal_status, refusal_line, platform_line, image_file_line, images_line, schedule_line, range_line, too_long_line, keyed, numbered};
 
 use crate::images::ImagesFault;
-use crate::input::Input;
-use crate::words::input_name;
 use cpu_table::Text;
 use image_file::ImagesError;
 use itoa::Buffer;
@@ -14,20 +10,20 @@ use smm_base::NoMemory;
 use std::alloc::Global;
 
 /// Why an input file was refused.
-#[derive(Debug, Drop)]
+#[derive(Drop)]
 pub enum Refusal {
-    /// The file was not loaded.
-    Read(Input),
-    /// The file has more bytes than its limit.
-    TooLong(Input),
+    /// The file with this name was not loaded.
+    Read(Text),
+    /// The file with this name has more bytes than this limit.
+    TooLong(Text, u64),
     /// The platform file describes no platform.
     Platform(PlatformError),
     /// The image file doesn't serve the platform.
     Images(ImagesFault),
     /// The file is no schedule of the platform.
     Schedule(ScheduleError),
-    /// The file asks for a part that is not built.
-    NotBuilt(Input),
+    /// The file with this name asks for a part that is not built.
+    NotBuilt(Text),
 }
 
 impl Refusal {
@@ -36,7 +32,7 @@ impl Refusal {
         ensures { result ≡ refusal_status self.now }
     {
         match self {
-            Refusal::Read(_) | Refusal::TooLong(_) => 6,
+            Refusal::Read(_) | Refusal::TooLong(..) => 6,
             Refusal::Platform(_) => 2,
             Refusal::Images(_) => 3,
             Refusal::Schedule(_) => 4,
@@ -46,12 +42,7 @@ impl Refusal {
 }
 
 // Three texts in a row.
-pub(crate) fn joined(
-    alloc: Global,
-    first: &str,
-    name: &str,
-    last: &str,
-) -> Result<Vec<u8>, NoMemory>
+fn joined(alloc: Global, first: &str, name: &str, last: &str) -> Result<Vec<u8>, NoMemory>
     ensures { IfOk result (λ line. line.items ≡ first.now ++ name.now ++ last.now) }
 {
     let mut line = Vec::from_slice(alloc, first.as_bytes())?;
@@ -68,7 +59,18 @@ fn number_line(alloc: Global, front: &str, number: u64) -> Result<Vec<u8>, NoMem
     joined(alloc, front, digits.format(number), "\n")
 }
 
-// A text, a key of the platform file, and a line end.
+// A text, two numbers with a blank between, and a line end.
+fn numbers_line(alloc: Global, front: &str, first: u64, second: u64) -> Result<Vec<u8>, NoMemory>
+    ensures { IfOk result (λ line. line.items ≡ front.now ++ decimal first ++ codes " " ++ decimal second ++ 10 ∷ []) }
+{
+    let mut digits = Buffer::new();
+    let mut line = joined(alloc, front, digits.format(first), " ")?;
+    line.extend_from_slice(digits.format(second).as_bytes())?;
+    line.push(b'\n')?;
+    Ok(line)
+}
+
+// A text, a key or a name, and a line end.
 fn key_line(alloc: Global, front: &str, key: &Text) -> Result<Vec<u8>, NoMemory>
     ensures { IfOk result (λ line. line.items ≡ keyed front.now key.now) }
 {
@@ -128,21 +130,15 @@ fn line_of_images(alloc: Global, fault: ImagesFault) -> Result<Vec<u8>, NoMemory
     match fault {
         ImagesFault::File(error) => line_of_image_file(alloc, error),
         ImagesFault::KindDiffers => joined(alloc, "fault images kind-differs", "", "\n"),
-        ImagesFault::CountDiffers(count) => {
-            number_line(alloc, "fault images count-differs 1 ", count as u64)
+        ImagesFault::CountDiffers(processors, count) => {
+            numbers_line(
+                alloc,
+                "fault images count-differs ",
+                processors as u64,
+                count as u64,
+            )
         }
     }
-}
-
-// The line of an actor that the platform hasn't.
-fn line_of_actor(alloc: Global, at: usize, actor: u32) -> Result<Vec<u8>, NoMemory>
-    ensures { IfOk result (λ line. line.items ≡ actor_line at actor) }
-{
-    let mut digits = Buffer::new();
-    let mut line = joined(alloc, "fault schedule actor ", digits.format(at), " ")?;
-    line.extend_from_slice(digits.format(actor).as_bytes())?;
-    line.push(b'\n')?;
-    Ok(line)
 }
 
 // The line that tells why a file is no schedule.
@@ -151,46 +147,35 @@ fn line_of_schedule(alloc: Global, error: ScheduleError) -> Result<Vec<u8>, NoMe
 {
     match error {
         ScheduleError::Token(at) => number_line(alloc, "fault schedule token ", at as u64),
-        ScheduleError::Actor(at, actor) => line_of_actor(alloc, at, actor),
+        ScheduleError::Actor(at, actor) => {
+            numbers_line(alloc, "fault schedule actor ", at as u64, actor as u64)
+        }
         ScheduleError::TooLong => joined(alloc, "fault schedule too-long", "", "\n"),
         ScheduleError::NoMemory => joined(alloc, "fault memory", "", "\n"),
     }
 }
 
-// A blank, the limit of an input file, and a line end.
-fn limit_ending(input: Input) -> &'static str
-    ensures { result.now ≡ limit_text input }
+// The line of a file that is longer than its limit.
+fn line_of_too_long(alloc: Global, name: &Text, limit: u64) -> Result<Vec<u8>, NoMemory>
+    ensures { IfOk result (λ line. line.items ≡ too_long_line name.now limit) }
 {
-    match input {
-        Input::Platform => " 1048576\n",
-        Input::Images => " 65548\n",
-        Input::Schedule => " 4194304\n",
-    }
+    let mut digits = Buffer::new();
+    let mut line = joined(alloc, "fault too-long ", name.as_str(), " ")?;
+    line.extend_from_slice(digits.format(limit).as_bytes())?;
+    line.push(b'\n')?;
+    Ok(line)
 }
 
 // The line that tells why an input file is refused.
-pub(crate) fn line_of_refusal(
-    alloc: Global,
-    words: &Vec<String>,
-    refusal: &Refusal,
-) -> Result<Vec<u8>, NoMemory>
-    ensures { IfOk result (λ line. line.items ≡ refusal_line (texts words.now.items) refusal.now) }
+pub(crate) fn line_of_refusal(alloc: Global, refusal: &Refusal) -> Result<Vec<u8>, NoMemory>
+    ensures { IfOk result (λ line. line.items ≡ refusal_line refusal.now) }
 {
     match refusal {
-        Refusal::Read(input) => joined(alloc, "fault read ", input_name(words, *input), "\n"),
-        Refusal::TooLong(input) => {
-            joined(
-                alloc,
-                "fault too-long ",
-                input_name(words, *input),
-                limit_ending(*input),
-            )
-        }
+        Refusal::Read(name) => key_line(alloc, "fault read ", name),
+        Refusal::TooLong(name, limit) => line_of_too_long(alloc, name, *limit),
         Refusal::Platform(error) => line_of_platform(alloc, error),
         Refusal::Images(fault) => line_of_images(alloc, *fault),
         Refusal::Schedule(error) => line_of_schedule(alloc, *error),
-        Refusal::NotBuilt(input) => {
-            joined(alloc, "fault not-built ", input_name(words, *input), "\n")
-        }
+        Refusal::NotBuilt(name) => key_line(alloc, "fault not-built ", name),
     }
 }

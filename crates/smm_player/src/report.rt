@@ -1,4 +1,5 @@
-ghost use Rattle.std.specs.Prelude.{◌≡◌, ◌++◌, ◌≤◌, [], IsErrOf, OnErr, OnOk};
+ghost use Rattle.std.specs.Prelude.{◌≡◌, ◌++◌, [], IsErrOf, OnErr, OnOk};
+ghost use Rattle.smm_base.specs.Calls.{Leads};
 ghost use Rattle.smm_base.specs.Faults.{Rose};
 ghost use Rattle.smm_base.specs.Sink.{appended, GainsPrefix};
 ghost use Rattle.sync_words.specs.Texts.{event_line};
@@ -30,7 +31,7 @@ pub fn write_report<K: Sink>(
     ensures appends { OnOk result (K.written out.new ≡ appended (K.written out.old) (report_text processors events.now complete)) }
     ensures prefix { OnErr result (GainsPrefix (K.written out.old) (K.written out.new) (report_text processors events.now complete)) }
     ensures failed { IsErrOf result WriteError.Failed → Rose (K.faults out.old) (K.faults out.new) }
-    ensures never_falls { K.faults out.old ≤ K.faults out.new }
+    ensures moved { Leads K.moves out.old out.new }
 {
     let mut buffer = Vec::with_capacity(alloc, PIECE)?;
     write_lines(processors, events, &mut buffer, out)?;
@@ -49,7 +50,7 @@ fn write_lines<K: Sink>(
     ensures buffered { OnOk result (IsBuffered (K.written out.old) (K.written out.new) buffer.new.items (event_lines processors events.now)) }
     ensures prefix { OnErr result (GainsPrefix (K.written out.old) (K.written out.new) (event_lines processors events.now)) }
     ensures failed { IsErrOf result WriteError.Failed → Rose (K.faults out.old) (K.faults out.new) }
-    ensures never_falls { K.faults out.old ≤ K.faults out.new }
+    ensures moved { Leads K.moves out.old out.new }
 {
     for event in events {
         push_line(processors, event, buffer, out)?;
@@ -67,7 +68,7 @@ fn push_line<K: Sink>(
     ensures buffered { OnOk result (IsBuffered (K.written out.old) (K.written out.new) buffer.new.items (buffer.old.items ++ event_line processors event.now)) }
     ensures prefix { OnErr result (GainsPrefix (K.written out.old) (K.written out.new) buffer.old.items) }
     ensures failed { IsErrOf result WriteError.Failed → Rose (K.faults out.old) (K.faults out.new) }
-    ensures never_falls { K.faults out.old ≤ K.faults out.new }
+    ensures moved { Leads K.moves out.old out.new }
 {
     make_room(buffer, out)?;
     push_event(processors, event, buffer).map_err(|_| WriteError::NoMemory)
@@ -83,7 +84,7 @@ fn push_last_line<K: Sink>(
     ensures buffered { OnOk result (IsBuffered (K.written out.old) (K.written out.new) buffer.new.items (buffer.old.items ++ last_line events.now complete)) }
     ensures prefix { OnErr result (GainsPrefix (K.written out.old) (K.written out.new) buffer.old.items) }
     ensures failed { IsErrOf result WriteError.Failed → Rose (K.faults out.old) (K.faults out.new) }
-    ensures never_falls { K.faults out.old ≤ K.faults out.new }
+    ensures moved { Leads K.moves out.old out.new }
 {
     make_room(buffer, out)?;
     push_totals(events, complete, buffer).map_err(|_| WriteError::NoMemory)
@@ -94,7 +95,7 @@ fn make_room<K: Sink>(buffer: &mut Vec<u8>, out: &mut K) -> Result<(), WriteErro
     ensures buffered { OnOk result (IsBuffered (K.written out.old) (K.written out.new) buffer.new.items buffer.old.items) }
     ensures prefix { OnErr result (GainsPrefix (K.written out.old) (K.written out.new) buffer.old.items) }
     ensures failed { IsErrOf result WriteError.Failed → Rose (K.faults out.old) (K.faults out.new) }
-    ensures never_falls { K.faults out.old ≤ K.faults out.new }
+    ensures moved { Leads K.moves out.old out.new }
 {
     if buffer.len() > PIECE - LINE {
         write_all(out, buffer)?;
@@ -224,6 +225,12 @@ mod tests {
         ghost written = { λ _. None };
 
         ghost faults = { λ _. 0 };
+
+        ghost fails_next = { λ _. None };
+
+        ghost most = { λ _. None };
+
+        ghost moves = { λ _ _. Unit };
 
         fn write(&mut self, piece: &[u8]) -> Result<usize, WriteError> {
             self.longest = self.longest.max(piece.len());

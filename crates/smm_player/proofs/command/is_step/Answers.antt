@@ -1,9 +1,9 @@
 use Rattle.std.proofs.Common.{◌∙◌, sym, ap}
 use Rattle.std.proofs.lemmas.Bool.{eqb-true}
-use Rattle.smm_player.specs.Words.{is_step_word}
+use Rattle.smm_player.specs.Commands.{is_step_word}
 use Rattle.smm_player.proofs.WordLemmas.{form_is}
-use Rattle.smm_player.proofs.words.is_step.Goals as goal
-use Rattle.smm_player.proofs.words.is_step.Goals.{then-len-eq5, else-len-eq5}
+use Rattle.smm_player.proofs.command.is_step.Goals as goal
+use Rattle.smm_player.proofs.command.is_step.Goals.{then-len-eq5, else-len-eq5}
 
 pub returns-then-is_command : goal.returns-then-is_command
 returns-then-is_command c =

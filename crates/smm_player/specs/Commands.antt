@@ -1,10 +1,11 @@
--- The words of a command. Their form is the project's own.
-use Rattle.std.specs.Prelude.{ℕ, ◌==◌, Bool, ◌&&◌, not, List, [], map, length, slice_index, slice_index_or, codes, string_bytes}
+-- The commands and the forms of their words. They are the project's own.
+use Rattle.std.specs.Prelude.{ℕ, ◌==◌, Bool, ◌&&◌, not, List, [], map, length, slice_index, slice_index_or, codes, string_bytes, Option, None, Some, if◌then◌else◌}
 use Rattle.std.specs.List.{list_any}
 use Rattle.std.specs.Str.{bytes_eq}
 use Rattle.std.specs.declared.string.String.{String}
-use Rattle.smm_player.specs.declared.input.Input.{Input}
-use Rattle.smm_player.specs.declared.input.Input.TheVariants.{Platform, Images, Schedule}
+use Rattle.smm_player.specs.declared.command.Step.{Step}
+use Rattle.smm_player.specs.declared.command.Command.{Command}
+use Rattle.smm_player.specs.declared.command.Command.TheVariants as command
 
 -- the bytes of each word
 abbrev pub texts : {A : Type 0} → List (String A) → List (List ℕ)
@@ -26,12 +27,10 @@ is_step_word word = bytes_eq word (codes "step")
 abbrev pub is_step_form : List (List ℕ) → Bool
 is_step_form words = (length words == 5) && is_step_word (word_at words 0) && not (list_any begins_with_dash words)
 
--- the name of an input file
-abbrev pub name_of : List (List ℕ) → Input → List ℕ
-name_of words Platform = word_at words 1
-name_of words Images = word_at words 2
-name_of words Schedule = word_at words 3
+-- the names in the words of a step
+abbrev pub step_of : List (List ℕ) → Step
+step_of words = record { platform = word_at words 1; images = word_at words 2; schedule = word_at words 3; after = word_at words 4 }
 
--- the name under which the images are saved
-abbrev pub after_name : List (List ℕ) → List ℕ
-after_name words = word_at words 4
+-- the command of the words, and none where they are of no command's form
+abbrev pub form_of : List (List ℕ) → Option Command
+form_of words = if is_step_form words then Some (command.Step (step_of words)) else None
