@@ -1,5 +1,5 @@
 -- The images of a file that serves a platform are all of its kind, and as many as its processors.
-use Rattle.std.proofs.Common.{◌≡◌, ℕ, zero, suc, ◌==◌, Bool, true, false, not, List, [], ◌∷◌, All, length, Ok, Err, if◌then◌else◌, refl, ap, sym, subst, ◌∙◌, take, drop}
+use Rattle.std.proofs.Common.{◌≡◌, ℕ, zero, suc, ◌==◌, Bool, true, false, not, List, [], ◌∷◌, All, length, Result, Ok, Err, IfOk, if◌then◌else◌, refl, ap, sym, subst, ◌∙◌, take, drop}
 use Rattle.std.proofs.lemmas.Bool.{eqb-true}
 use Rattle.smm_base.specs.declared.kinds.MapKind.{MapKind}
 use Rattle.smm_base.specs.declared.kinds.MapKind.TheVariants.{Ia32, Intel64}
@@ -9,6 +9,9 @@ use Rattle.image_file.specs.Contents.{images_at, images_in}
 use Rattle.image_file.specs.Refusals.{kind_number_of, kind_numbered, count_of}
 use Rattle.smm_player.specs.declared.images.ImagesFault.TheVariants as fault
 use Rattle.smm_player.specs.declared.refusal.Refusal.TheVariants.{Images}
+use Rattle.smm_player.specs.declared.fault.Fault.{Fault}
+use Rattle.cpu_table.specs.Data.{SetupData}
+use Rattle.rendezvous_core.specs.Setups.{AreImagesOf}
 use Rattle.smm_player.specs.Due.{Finding, kinds_agree, differs, counted, serving}
 
 all_at : (kind : MapKind) (n : ℕ) (bytes : List ℕ) → All (λ image. image.kind ≡ kind) (images_at kind n bytes)
@@ -59,3 +62,18 @@ serves kind processors images found one all is =
 pub file_serves : (kind : MapKind) (processors : ℕ) (bytes : List ℕ) (found : List ImageContents) → serving kind processors (images_in bytes) ≡ Ok found → Serves kind processors found
 file_serves kind processors bytes found is =
     serves kind processors (images_in bytes) found (kind_numbered (kind_number_of bytes)) (all_at (kind_numbered (kind_number_of bytes)) (count_of bytes) (drop 12 bytes)) is
+
+-- the same of an answer
+pub served_count : {V : Type 0} (view : V → List ImageContents) (kind : MapKind) (processors : ℕ) (bytes : List ℕ) (held : List ImageContents) (r : Result V Fault) → held ≡ images_in bytes → IfOk r (λ v. serving kind processors held ≡ Ok (view v)) →
+    IfOk r (λ v. length (view v) ≡ processors)
+served_count view kind processors bytes held (Ok v) is found = (file_serves kind processors bytes (view v) (ap (serving kind processors) (sym is) ∙ found)).count
+served_count view kind processors bytes held (Err stopped) is found = tt
+
+pub served_kind : {V : Type 0} (view : V → List ImageContents) (kind : MapKind) (processors : ℕ) (bytes : List ℕ) (held : List ImageContents) (r : Result V Fault) → held ≡ images_in bytes → IfOk r (λ v. serving kind processors held ≡ Ok (view v)) →
+    IfOk r (λ v. All (λ image. image.kind ≡ kind) (view v))
+served_kind view kind processors bytes held (Ok v) is found = (file_serves kind processors bytes (view v) (ap (serving kind processors) (sym is) ∙ found)).kind
+served_kind view kind processors bytes held (Err stopped) is found = tt
+
+pub images_serve : {V : Type 0} (view : V → List ImageContents) (setup : SetupData) (r : Result V Fault) → IfOk r (λ v. length (view v) ≡ setup.processors) → IfOk r (λ v. All (λ image. image.kind ≡ setup.kind) (view v)) → IfOk r (λ v. AreImagesOf setup (view v))
+images_serve view setup (Ok v) count kind = record { count = count; kind = kind }
+images_serve view setup (Err stopped) count kind = tt

@@ -1,8 +1,11 @@
 -- What is found in the input files, and when a fault may come while they are loaded.
-use Rattle.std.proofs.Common.{◌≡◌, ◌≢◌, ℕ, ◌+◌, ◌==◌, ◌≤◌, ◌⊎◌, inl, inr, Bool, true, false, not, List, [], ◌∷◌, length, All, Option, None, Some, Result, Ok, Err, IfOk, IfErr, IfSome, if◌then◌else◌, refl, ap, sym, subst, ◌∙◌, arith}
+use Rattle.std.proofs.Common.{◌≡◌, ◌≢◌, ℕ, ◌+◌, ◌==◌, ◌≤◌, ◌⊎◌, inl, inr, Bool, true, false, not, List, [], ◌∷◌, length, All, Option, None, Some, Result, Ok, Err, IfOk, IfErr, IfSome, IsErrOf, IsSomeAnd, MatchOption, ◌<◌, if◌then◌else◌, refl, ap, sym, subst, ◌∙◌, arith}
 use Rattle.std.specs.Str.{bytes_eq}
+use Rattle.std.proofs.lemmas.Bool.{lt-ltb, le-ltb}
 use Rattle.std.proofs.lemmas.Slice.Eq.{bytes_eq-Decides}
 use Rattle.smm_base.specs.Store.{FileMap}
+use Rattle.smm_base.specs.declared.store.LoadError.{LoadError}
+use Rattle.smm_base.specs.declared.store.LoadError.TheVariants as load
 use Rattle.smm_base.specs.declared.kinds.MapKind.{MapKind}
 use Rattle.smm_base.specs.declared.kinds.MapKind.TheVariants.{Ia32, Intel64}
 use Rattle.save_state_map.specs.Images.{ImageContents}
@@ -23,8 +26,65 @@ use Rattle.smm_player.specs.declared.refusal.Refusal.TheVariants.{Read, TooLong,
 use Rattle.smm_player.specs.declared.fault.Fault.{Fault}
 use Rattle.smm_player.specs.declared.fault.Fault.TheVariants.{Refused, Write, Save, Memory}
 use Rattle.smm_player.specs.Fault.{platform_fault, images_fault, schedule_fault}
-use Rattle.smm_player.specs.Due.{Finding, and_then, or_refusal, loaded, file_due, if_built, platform_found, kinds_agree, differs, counted, serving, judged, images_found, schedule_found, without, IsDue, RefusalCause}
-use Rattle.smm_player.specs.Loading.{LoadCause, RefusedReading, StopsReading}
+use Rattle.smm_player.specs.Due.{Finding, and_then, or_refusal, loaded, file_due, if_built, platform_found, kinds_agree, differs, counted, serving, judged, images_found, schedule_found, without, schedule_due, plan_with, IsDue, RefusalCause}
+use Rattle.rendezvous_core.specs.Setups.{is_built}
+use Rattle.smm_player.specs.declared.command.Step.{Step}
+use Rattle.smm_player.specs.Plan.{plan}
+use Rattle.smm_player.specs.Loading.{IsLoadFault, IsRefusedFor, LoadCause, RefusedReading, StopsReading}
+
+-- a refusal with its cause, or want of memory
+pub refused_cause : {A : Type 0} (judge : FileMap → Finding A) (files : Option FileMap) (failed : Type 0) (refusal : Refusal) (fault : Fault) → IsRefusedFor refusal fault → RefusalCause judge files failed refusal → LoadCause judge files failed fault
+refused_cause judge files failed refusal fault is cause =
+    let P : Fault → Type 0 = λ f. LoadCause judge files failed f in
+    elim is [ inl e ↦ subst P (sym e) cause | inr e ↦ subst P (sym e) tt ]
+
+pub refused_reading : {A : Type 0} (found : Finding A) (refusal : Refusal) (fault : Fault) → IsRefusedFor refusal fault → RefusedReading found refusal → StopsReading found fault
+refused_reading found refusal fault is cause =
+    let P : Fault → Type 0 = λ f. StopsReading found f in
+    elim is [ inl e ↦ subst P (sym e) cause | inr e ↦ subst P (sym e) tt ]
+
+-- the load of one file
+
+gone : (limit : ℕ) (name : List ℕ) (held : FileMap) → loaded limit name (without name held name) ≡ Err (Read name)
+gone limit name held = ap (λ b. loaded limit name (if b then None else held name)) ((bytes_eq-Decides name name).1 refl)
+
+pub load_failed : (limit : ℕ) (name : List ℕ) (files : Option FileMap) (failed : Type 0) → failed → RefusalCause (λ held. loaded limit name (held name)) files failed (Read name)
+load_failed limit name None failed did = did
+load_failed limit name (Some held) failed did = inr (did, gone limit name held)
+
+pub load_missing : (limit : ℕ) (name : List ℕ) (files : Option FileMap) (failed : Type 0) → MatchOption files failed (λ held. held name ≡ None) → RefusalCause (λ held. loaded limit name (held name)) files failed (Read name)
+load_missing limit name None failed is = is
+load_missing limit name (Some held) failed is = inl (ap (loaded limit name) is)
+
+longer : (limit : ℕ) (name : List ℕ) (held : Option (List ℕ)) → IsSomeAnd held (λ bytes. limit < length bytes) → loaded limit name held ≡ Err (TooLong name limit)
+longer limit name None is = absurd is
+longer limit name (Some bytes) is = ap (λ b. if b then Err (TooLong name limit) else Ok bytes) (lt-ltb limit (length bytes) is)
+
+pub load_too_long : (limit : ℕ) (name : List ℕ) (files : Option FileMap) (failed : Type 0) → MatchOption files failed (λ held. IsSomeAnd (held name) (λ bytes. limit < length bytes)) → RefusalCause (λ held. loaded limit name (held name)) files failed (TooLong name limit)
+load_too_long limit name None failed is = is
+load_too_long limit name (Some held) failed is = longer limit name (held name) is
+
+within : (limit : ℕ) (name bytes : List ℕ) (held : Option (List ℕ)) → length bytes ≤ limit → held ≡ Some bytes → loaded limit name held ≡ Ok bytes
+within limit name bytes held fits is = ap (loaded limit name) is ∙ ap (λ b. if b then Err (TooLong name limit) else Ok bytes) (le-ltb limit (length bytes) fits)
+
+pub load_due : (limit : ℕ) (name : List ℕ) (files : Option FileMap) (bytes : List ℕ) → length bytes ≤ limit → IfSome files (λ held. held name ≡ Some bytes) → IsDue (λ held. loaded limit name (held name)) files bytes
+load_due limit name None bytes fits is = tt
+load_due limit name (Some held) bytes fits is = within limit name bytes (held name) fits is
+
+-- what stops a load, by its error
+pub load_stops : (T : Type 0) (limit : ℕ) (name : List ℕ) (files : Option FileMap) (failed : Type 0) (error : LoadError) (fault : Fault) →
+    (IsErrOf {T = T} (Err error) load.Failed → failed) →
+    (IsErrOf {T = T} (Err error) load.Missing → MatchOption files failed (λ held. held name ≡ None)) →
+    (IsErrOf {T = T} (Err error) load.TooLong → MatchOption files failed (λ held. IsSomeAnd (held name) (λ bytes. limit < length bytes))) →
+    IsLoadFault limit name error fault → LoadCause (λ held. loaded limit name (held name)) files failed fault
+load_stops T limit name files failed load.Failed fault did missing long is =
+    refused_cause (λ held. loaded limit name (held name)) files failed (Read name) fault is (load_failed limit name files failed (did refl))
+load_stops T limit name files failed load.Missing fault did missing long is =
+    refused_cause (λ held. loaded limit name (held name)) files failed (Read name) fault is (load_missing limit name files failed (missing refl))
+load_stops T limit name files failed load.TooLong fault did missing long is =
+    refused_cause (λ held. loaded limit name (held name)) files failed (TooLong name limit) fault is (load_too_long limit name files failed (long refl))
+load_stops T limit name files failed load.NoMemory fault did missing long is =
+    let P : Fault → Type 0 = λ f. LoadCause (λ (held : FileMap). loaded limit name (held name)) files failed f in subst P (sym is) tt
 
 -- the platform file
 
@@ -46,9 +106,14 @@ platform_stops name bytes (platform.Unknown key) why = elim why [ inl is ↦ abs
 platform_stops name bytes (platform.TooLarge events) why = elim why [ inl is ↦ absurd cc | inr read ↦ read_stops name bytes (platform.TooLarge events) read ]
 platform_stops name bytes platform.NoMemory why = tt
 
--- a fault stops the reading of what is found by another name
-pub stops_as : {A : Type 0} (found other : Finding A) (fault : Fault) → found ≡ other → StopsReading other fault → StopsReading found fault
-stops_as {A} found other fault is stops = let P : Finding A → Type 0 = λ x. StopsReading x fault in subst P (sym is) stops
+-- what is found by another name
+pub as_found : {A V : Type 0} (view : V → A) (found other : Finding A) (r : Result V Fault) → found ≡ other → IfOk r (λ value. other ≡ Ok (view value)) → IfOk r (λ value. found ≡ Ok (view value))
+as_found view found other (Ok value) same is = same ∙ is
+as_found view found other (Err stopped) same is = tt
+
+pub as_stops : {A V : Type 0} (found other : Finding A) (r : Result V Fault) → found ≡ other → IfErr r (StopsReading other) → IfErr r (StopsReading found)
+as_stops found other (Ok value) same stops = tt
+as_stops {A} found other (Err stopped) same stops = let P : Finding A → Type 0 = λ x. StopsReading x stopped in subst P (sym same) stops
 
 -- the image file
 
@@ -155,7 +220,7 @@ stop_second first next steady files failed a Memory due cause = tt
 
 -- the load of one file is steady: it looks at one name alone
 loaded_without : (b : Bool) (limit : ℕ) (name other : List ℕ) (held : Option (List ℕ)) → (b ≡ true → name ≡ other) → (loaded limit name (if b then None else held) ≡ loaded limit name held) ⊎ (loaded limit name (if b then None else held) ≡ Err (Read other))
-loaded_without true limit name other held is = inr (ap (λ n. Err (Read n)) (is refl))
+loaded_without true limit name other held is = let f : List ℕ → Finding (List ℕ) = λ n. Err (Read n) in inr (ap f (is refl))
 loaded_without false limit name other held is = inl refl
 
 pub load_steady : (limit : ℕ) (name : List ℕ) → IsSteady (λ held. loaded limit name (held name))
@@ -230,3 +295,8 @@ then_stops first next steady files files' f g a (Ok value) stay wider due stops 
 then_stops first next steady files files' f g a (Err stopped) stay wider due stops =
     let P : Option FileMap → Type 0 = λ fs. LoadCause (next a) fs f stopped in
     stop_second first next steady files g a stopped due (wider_stop (next a) files f g stopped wider (subst P stay stops))
+
+-- the plan once the schedule is there
+pub plan_due_with : (names : Step) (setup : SetupData) (images : List ImageContents) (files : Option FileMap) (actors : List ℕ) → IsDue (schedule_due names setup) files actors → IsDue (plan_with names setup images) files (plan setup images actors)
+plan_due_with names setup images None actors is = tt
+plan_due_with names setup images (Some held) actors is = ap (λ r. and_then r (λ xs. Ok (plan setup images xs))) is

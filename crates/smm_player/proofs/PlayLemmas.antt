@@ -1,13 +1,15 @@
 -- What a command's end comes to: status by status, fault by fault.
 use Rattle.std.proofs.Common.{◌≡◌, ◌≢◌, ℕ, ◌<◌, ◌⊎◌, Bool, true, false, List, [], ◌∷◌, length, All, Option, None, Some, Result, Ok, Err, IfSome, IfErr, OnOk, IsOk, refl, ap, sym, subst, ◌∙◌, arith, inl, inr}
-use Rattle.std.specs.Option.{option_map, IsSomeAnd}
+use Rattle.std.specs.Option.{option_map}
 use Rattle.smm_base.specs.Sink.{appended, GainsPrefix}
 use Rattle.smm_base.specs.Store.{FileMap, ChangesOnly}
 use Rattle.save_state_map.specs.Images.{ImageContents}
 use Rattle.sync_words.specs.declared.label.Label.{Label}
 use Rattle.cpu_table.specs.Data.{SetupData}
 use Rattle.rendezvous_core.specs.Platform.{Platform as PlatformOf}
-use Rattle.rendezvous_core.specs.Setups.{platform_of}
+use Rattle.rendezvous_core.specs.Setups.{platform_of, is_built, is_elected, is_traditional, is_one_wave, are_built_handlers}
+use Rattle.std.proofs.lemmas.Bool.{and_parts, eqb-true}
+use Rattle.std.specs.Prelude.{is_none, ◌==◌, ◌&&◌, IsTrue, IsSomeAnd, MatchOption}
 use Rattle.rendezvous_core.specs.Worlds.{last_image}
 use Rattle.rendezvous_core.specs.Machine.{IsRun, beginning, machine_after, member, resumed_image}
 use Rattle.smm_player.specs.declared.command.Step.{Step}
@@ -221,7 +223,7 @@ changes_nothing : (name : List ℕ) (files : Option FileMap) → ChangesOnly nam
 changes_nothing name None = tt
 changes_nothing name (Some held) = λ other apart. refl
 
-pub memory_obeys : (asked : Command) (files : Option FileMap) (l w s : Type 0) (before after : Option (List ℕ)) → GainsPrefix before after memory_line → Obeys asked files files l w s before after 8
+memory_obeys : (asked : Command) (files : Option FileMap) (l w s : Type 0) (before after : Option (List ℕ)) → GainsPrefix before after memory_line → Obeys asked files files l w s before after 8
 memory_obeys asked files l w s before after line = at_8 asked files files l w s before after (inl line) refl (changes_nothing (saved_name asked) files)
 
 -- a command that was done
@@ -340,17 +342,110 @@ unsaved_from (Err Write) P Q step holds = step holds
 unsaved_from (Err Save) P Q step holds = tt
 unsaved_from (Err Memory) P Q step holds = step holds
 
--- what is promised of a command, for the words that stand for one
+-- what a play promises, by the command that the words stand for, if any
+pub record Plays (o : Option Command) (files files' : Option FileMap) (l w s : Type 0) (before after : Option (List ℕ)) (n : ℕ) : Type 0 where
+  pub status : is_exit_status n ≡ true
+  pub done : n ≡ 0 → IsSomeAnd o (λ asked. IsDone asked files files' before after)
+  pub played : n ≡ 0 → IsSomeAnd o (λ asked. IsPlayed asked files files' before after)
+  pub usage_only : n ≡ 1 → o ≡ None
+  pub usage : o ≡ None → (n ≡ 1) ⊎ (n ≡ 8)
+  pub usage_told : n ≡ 1 → Tells w before after usage_line
+  pub faulted : (n ≡ 2) ⊎ (n ≡ 3) ⊎ (n ≡ 4) ⊎ (n ≡ 6) ⊎ (n ≡ 9) → IsSomeAnd o (λ asked. IsFaulted asked files l w before after n)
+  pub is_due : (l → ⊥) → IfSome o (λ asked. IfSome files (λ held. IsDueStatus (due asked held) n))
+  pub complete : (l → ⊥) → (w → ⊥) → (s → ⊥) → IfSome o (λ asked. IfSome files (λ held. IsOk (due asked held) → (n ≡ 0) ⊎ (n ≡ 8)))
+  pub outside : n ≡ 7 → IsSomeAnd o (λ asked. FailsOutside asked files w s (files' ≡ files) before after)
+  pub runs_out : n ≡ 8 → MatchOption o (UsageRunsOut before after) (λ asked. RunsOut asked files l before after)
+  pub unsaved : n ≢ 0 → n ≢ 7 → files' ≡ files
+  pub others_stay : ChangesOnlySaved o files files'
 
-pub if_command : {A : Type 0} (o : Option A) (P : A → Type 0) (asked : A) → o ≡ Some asked → P asked → IfSome o P
-if_command {A} o P asked is holds = let Q : Option A → Type 0 = λ x. IfSome x P in subst Q (sym is) holds
+plays_asked : (asked : Command) (files files' : Option FileMap) (l w s : Type 0) (before after : Option (List ℕ)) (n : ℕ) → Obeys asked files files' l w s before after n → Plays (Some asked) files files' l w s before after n
+plays_asked asked files files' l w s before after n obeys = record {
+  status = obeys.exits;
+  done = obeys.done;
+  played = obeys.played;
+  usage_only = λ one. absurd (obeys.not_usage one);
+  usage = λ none. absurd cc;
+  usage_told = λ one. absurd (obeys.not_usage one);
+  faulted = obeys.faulted;
+  is_due = obeys.is_due;
+  complete = obeys.complete;
+  outside = obeys.outside;
+  runs_out = obeys.runs_out;
+  unsaved = obeys.unsaved;
+  others_stay = obeys.others_stay;
+}
 
-pub for_command : {A : Type 0} (o : Option A) (P : A → Type 0) (asked : A) → o ≡ Some asked → P asked → IsSomeAnd o P
-for_command {A} o P asked is holds = let Q : Option A → Type 0 = λ x. IsSomeAnd x P in subst Q (sym is) holds
+pub some_plays : (o : Option Command) (asked : Command) (files files' : Option FileMap) (l w s : Type 0) (before after : Option (List ℕ)) (n : ℕ) → o ≡ Some asked → Obeys asked files files' l w s before after n → Plays o files files' l w s before after n
+some_plays o asked files files' l w s before after n is obeys =
+    let P : Option Command → Type 0 = λ x. Plays x files files' l w s before after n in subst P (sym is) (plays_asked asked files files' l w s before after n obeys)
 
-pub any_command : {A : Type 0} (o : Option A) (P : A → Type 0) → ((asked : A) → P asked) → IfSome o P
-any_command None P holds = tt
-any_command (Some asked) P holds = holds asked
+usage_at_1 : (files : Option FileMap) (l w s : Type 0) (before after : Option (List ℕ)) → Tells w before after usage_line → Plays None files files l w s before after 1
+usage_at_1 files l w s before after line = record {
+  status = refl;
+  done = λ e. absurd (omega (arith, e));
+  played = λ e. absurd (omega (arith, e));
+  usage_only = λ _. refl;
+  usage = λ _. inl refl;
+  usage_told = λ _. line;
+  faulted = λ is. unfaulted 1 (λ e. omega (arith, e)) (λ e. omega (arith, e)) (λ e. omega (arith, e)) (λ e. omega (arith, e)) (λ e. omega (arith, e)) is;
+  is_due = λ _. tt;
+  complete = λ _ _ _. tt;
+  outside = λ e. absurd (omega (arith, e));
+  runs_out = λ e. absurd (omega (arith, e));
+  unsaved = λ _ _. refl;
+  others_stay = refl;
+}
 
-pub no_command : {A : Type 0} (o : Option A) (P : A → Type 0) → o ≡ None → IfSome o P
-no_command {A} o P is = let Q : Option A → Type 0 = λ x. IfSome x P in subst Q (sym is) tt
+usage_at_8 : (files : Option FileMap) (l w s : Type 0) (before after : Option (List ℕ)) → UsageRunsOut before after → Plays None files files l w s before after 8
+usage_at_8 files l w s before after out = record {
+  status = refl;
+  done = λ e. absurd (omega (arith, e));
+  played = λ e. absurd (omega (arith, e));
+  usage_only = λ e. absurd (omega (arith, e));
+  usage = λ _. inr refl;
+  usage_told = λ e. absurd (omega (arith, e));
+  faulted = λ is. unfaulted 8 (λ e. omega (arith, e)) (λ e. omega (arith, e)) (λ e. omega (arith, e)) (λ e. omega (arith, e)) (λ e. omega (arith, e)) is;
+  is_due = λ _. tt;
+  complete = λ _ _ _. tt;
+  outside = λ e. absurd (omega (arith, e));
+  runs_out = λ _. out;
+  unsaved = λ _ _. refl;
+  others_stay = refl;
+}
+
+usage_plays : (files : Option FileMap) (l w s : Type 0) (before after : Option (List ℕ)) (n : ℕ) → TellsOrRunsOut w before after usage_line 1 n → Plays None files files l w s before after n
+usage_plays files l w s before after n ends =
+    let P : ℕ → Type 0 = λ m. Plays None files files l w s before after m in
+    elim ends [ inl x ↦ subst P (sym x.0) (usage_at_1 files l w s before after x.1) | inr x ↦ subst P (sym x.0) (usage_at_8 files l w s before after (inr x.1)) ]
+
+pub none_plays : (o : Option Command) (files : Option FileMap) (l w s : Type 0) (before after : Option (List ℕ)) (n : ℕ) → o ≡ None → TellsOrRunsOut w before after usage_line 1 n → Plays o files files l w s before after n
+none_plays o files l w s before after n is ends = let P : Option Command → Type 0 = λ x. Plays x files files l w s before after n in subst P (sym is) (usage_plays files l w s before after n ends)
+
+memory_at_8 : (o : Option Command) (files : Option FileMap) (l w s : Type 0) (before after : Option (List ℕ)) → GainsPrefix before after memory_line → Plays o files files l w s before after 8
+memory_at_8 None files l w s before after line = usage_at_8 files l w s before after (inl line)
+memory_at_8 (Some asked) files l w s before after line = plays_asked asked files files l w s before after 8 (memory_obeys asked files l w s before after line)
+
+pub memory_plays : (o : Option Command) (files : Option FileMap) (l w s : Type 0) (before after : Option (List ℕ)) (n : ℕ) → n ≡ 8 → GainsPrefix before after memory_line → Plays o files files l w s before after n
+memory_plays o files l w s before after n is line = let P : ℕ → Type 0 = λ m. Plays o files files l w s before after m in subst P (sym is) (memory_at_8 o files l w s before after line)
+
+-- nothing of the store changed
+pub inputs_others : (name : List ℕ) (files files' : Option FileMap) → files' ≡ files → ChangesOnly name files files'
+inputs_others name files files' stay = let P : Option FileMap → Type 0 = λ fs. ChangesOnly name files fs in subst P (sym stay) (changes_nothing name files)
+
+-- each platform that is built has one processor
+one_processor : (s : SetupData) → IsTrue (is_built s) → s.processors ≡ 1
+one_processor s built =
+    let a = and_parts (s.processors == 1 && is_elected s.policy && is_traditional s.mode && is_none s.smram && is_one_wave s.waves) (are_built_handlers s.handlers) built in
+    let b = and_parts (s.processors == 1 && is_elected s.policy && is_traditional s.mode && is_none s.smram) (is_one_wave s.waves) a.0 in
+    let d = and_parts (s.processors == 1 && is_elected s.policy && is_traditional s.mode) (is_none s.smram) b.0 in
+    let e = and_parts (s.processors == 1 && is_elected s.policy) (is_traditional s.mode) d.0 in
+    let f = and_parts (s.processors == 1) (is_elected s.policy) e.0 in
+    eqb-true s.processors 1 f.0
+
+pub one_image : (p : Plan) → IsPlayable p → length p.images ≡ 1
+one_image p playable = playable.images.count ∙ one_processor p.setup playable.built
+
+-- where an outcome is due and nothing failed, all is done
+pub all_is_done : (o : Option Command) (held : FileMap) (n : ℕ) → IsSomeAnd o (λ asked. IsOk (due asked held)) → IfSome o (λ asked. IsOk (due asked held) → (n ≡ 0) ⊎ (n ≡ 8)) → (n ≡ 0) ⊎ (n ≡ 8)
+all_is_done None held n good done = absurd good
+all_is_done (Some asked) held n good done = done good

@@ -1,12 +1,10 @@
 ghost use Rattle.std.specs.Prelude.{◌≡◌};
-ghost use Rattle.smm_player.specs.declared.fault.Fault.TheVariants.{Memory};
 ghost use Rattle.smm_player.specs.Fault.{platform_fault, images_fault, schedule_fault};
 
 use crate::images::ImagesFault;
 use crate::refusal::Refusal;
 use image_file::ImagesError;
 use platform_file::{PlatformError, ScheduleError};
-use smm_base::NoMemory;
 
 /// Why a command did not come to its end.
 #[derive(Drop)]
@@ -19,14 +17,6 @@ pub enum Fault {
     Save,
     /// There was no memory.
     Memory,
-}
-
-impl From<NoMemory> for Fault {
-    ghost from_gives = { λ _ fault. fault ≡ Memory };
-
-    fn from(_: NoMemory) -> Self {
-        Fault::Memory
-    }
 }
 
 // The fault by the error of a platform file.

@@ -1,4 +1,4 @@
-ghost use Rattle.std.specs.Prelude.{◌≡◌, ◌≤◌, ◌<◌, Ok, All, IfErr, IfOk, IsTrue};
+ghost use Rattle.std.specs.Prelude.{◌≡◌, ◌≤◌, ◌<◌, Ok, All, IfErr, IfOk, IsTrue, length};
 ghost use Rattle.smm_base.specs.Calls.{Leads};
 ghost use Rattle.smm_base.specs.Faults.{Rose};
 ghost use Rattle.cpu_table.specs.Data.{data_of};
@@ -6,7 +6,7 @@ ghost use Rattle.rendezvous_core.specs.Setups.{is_built, AreImagesOf};
 ghost use Rattle.smm_player.specs.declared.refusal.Refusal.TheVariants.{Read as read, TooLong as too_long, NotBuilt as not_built};
 ghost use Rattle.smm_player.specs.Plan.{plan_of, IsPlayable};
 ghost use Rattle.smm_player.specs.Due.{loaded, if_built, platform_found, platform_due, images_found, images_due, schedule_found, schedule_due, plan_with, plan_on, plan_due, IsDue};
-ghost use Rattle.smm_player.specs.Loading.{LoadCause, StopsReading};
+ghost use Rattle.smm_player.specs.Loading.{IsLoadFault, IsRefusedFor, LoadCause, StopsReading};
 
 use crate::command::Step;
 use crate::fault::{Fault, images_fault, platform_fault, schedule_fault};
@@ -18,7 +18,7 @@ use image_file::read_images;
 use platform_file::{read_platform, read_schedule};
 use rendezvous_core::is_built;
 use save_state_map::Image;
-use smm_base::{LoadError, MapKind, NoMemory, Store};
+use smm_base::{LoadError, MapKind, Store};
 use std::alloc::Global;
 
 /// How many bytes a platform file has at most.
@@ -30,25 +30,46 @@ const IMAGES_LIMIT: u64 = 65_548;
 /// How many bytes a schedule has at most.
 const SCHEDULE_LIMIT: u64 = 4_194_304;
 
-// The refusal of a file that was not loaded.
-fn unread(alloc: Global, name: &Text) -> Result<Refusal, NoMemory>
-    ensures { IfOk result (λ refusal. refusal ≡ read name.now) }
+// The fault of a file that was not loaded.
+fn unread(alloc: Global, name: &Text) -> Fault
+    ensures { IsRefusedFor (read name.now) result }
 {
-    Ok(Refusal::Read(Text::from_str(alloc, name.as_str())?))
+    match Text::from_str(alloc, name.as_str()) {
+        Ok(name) => Fault::Refused(Refusal::Read(name)),
+        Err(_) => Fault::Memory,
+    }
 }
 
-// The refusal of a file that is longer than its limit.
-fn too_long(alloc: Global, name: &Text, limit: u64) -> Result<Refusal, NoMemory>
-    ensures { IfOk result (λ refusal. refusal ≡ too_long name.now limit) }
+// The fault of a file that is longer than its limit.
+fn too_long(alloc: Global, name: &Text, limit: u64) -> Fault
+    ensures { IsRefusedFor (too_long name.now limit) result }
 {
-    Ok(Refusal::TooLong(Text::from_str(alloc, name.as_str())?, limit))
+    match Text::from_str(alloc, name.as_str()) {
+        Ok(name) => Fault::Refused(Refusal::TooLong(name, limit)),
+        Err(_) => Fault::Memory,
+    }
 }
 
-// The refusal of a file that asks for a part that is not built.
-fn not_built(alloc: Global, name: &Text) -> Result<Refusal, NoMemory>
-    ensures { IfOk result (λ refusal. refusal ≡ not_built name.now) }
+// The fault of a file that asks for a part that is not built.
+fn not_built(alloc: Global, name: &Text) -> Fault
+    ensures { IsRefusedFor (not_built name.now) result }
 {
-    Ok(Refusal::NotBuilt(Text::from_str(alloc, name.as_str())?))
+    match Text::from_str(alloc, name.as_str()) {
+        Ok(name) => Fault::Refused(Refusal::NotBuilt(name)),
+        Err(_) => Fault::Memory,
+    }
+}
+
+// The fault by the error of a load.
+fn load_fault(alloc: Global, name: &Text, limit: u64, error: LoadError) -> Fault
+    ensures { IsLoadFault limit name.now error result }
+{
+    match error {
+        LoadError::Failed => unread(alloc, name),
+        LoadError::Missing => unread(alloc, name),
+        LoadError::TooLong => too_long(alloc, name, limit),
+        LoadError::NoMemory => Fault::Memory,
+    }
 }
 
 // The bytes of an input file.
@@ -65,10 +86,7 @@ fn load_file<F: Store>(
 {
     match store.load(alloc, name.as_str(), limit) {
         Ok(bytes) => Ok(bytes),
-        Err(LoadError::Failed) => Err(Fault::Refused(unread(alloc, name)?)),
-        Err(LoadError::Missing) => Err(Fault::Refused(unread(alloc, name)?)),
-        Err(LoadError::TooLong) => Err(Fault::Refused(too_long(alloc, name, limit)?)),
-        Err(LoadError::NoMemory) => Err(Fault::Memory),
+        Err(error) => Err(load_fault(alloc, name, limit, error)),
     }
 }
 
@@ -81,7 +99,7 @@ fn built_only(alloc: Global, name: &Text, setup: Setup) -> Result<Setup, Fault>
     if is_built(&setup) {
         Ok(setup)
     } else {
-        Err(Fault::Refused(not_built(alloc, name)?))
+        Err(not_built(alloc, name))
     }
 }
 
@@ -105,8 +123,10 @@ fn load_platform<F: Store>(alloc: Global, names: &Step, store: &mut F) -> Result
     ensures files_stay { F.files store.new ≡ F.files store.old }
     ensures moved { Leads F.moves store.old store.new }
 {
-    let bytes = load_file(alloc, &names.platform, PLATFORM_LIMIT, store)?;
-    setup_of(alloc, &names.platform, &bytes)
+    match load_file(alloc, &names.platform, PLATFORM_LIMIT, store) {
+        Ok(bytes) => setup_of(alloc, &names.platform, &bytes),
+        Err(fault) => Err(fault),
+    }
 }
 
 // The images of an image file, on a platform of the kind and of so many processors.
@@ -117,6 +137,8 @@ fn images_of(
     processors: u16,
 ) -> Result<Vec<Image>, Fault>
     ensures found { IfOk result (λ images. images_found kind processors bytes.now ≡ Ok images.items) }
+    ensures count { IfOk result (λ images. length images.items ≡ processors) }
+    ensures kind { IfOk result (λ images. All (λ image. image.kind ≡ kind) images.items) }
     ensures cause { IfErr result (StopsReading (images_found kind processors bytes.now)) }
 {
     match read_images(alloc, bytes) {
@@ -138,8 +160,10 @@ fn load_images<F: Store>(
     ensures files_stay { F.files store.new ≡ F.files store.old }
     ensures moved { Leads F.moves store.old store.new }
 {
-    let bytes = load_file(alloc, &names.images, IMAGES_LIMIT, store)?;
-    images_of(alloc, &bytes, setup.kind, setup.processors)
+    match load_file(alloc, &names.images, IMAGES_LIMIT, store) {
+        Ok(bytes) => images_of(alloc, &bytes, setup.kind, setup.processors),
+        Err(fault) => Err(fault),
+    }
 }
 
 // The actors of a schedule, on a platform of so many processors.
@@ -167,8 +191,10 @@ fn load_schedule<F: Store>(
     ensures files_stay { F.files store.new ≡ F.files store.old }
     ensures moved { Leads F.moves store.old store.new }
 {
-    let bytes = load_file(alloc, &names.schedule, SCHEDULE_LIMIT, store)?;
-    actors_of(alloc, &bytes, setup.processors)
+    match load_file(alloc, &names.schedule, SCHEDULE_LIMIT, store) {
+        Ok(bytes) => actors_of(alloc, &bytes, setup.processors),
+        Err(fault) => Err(fault),
+    }
 }
 
 // Loads what is left once the platform and the images are there.
@@ -187,12 +213,16 @@ fn load_with<F: Store>(
     ensures files_stay { F.files store.new ≡ F.files store.old }
     ensures moved { Leads F.moves store.old store.new }
 {
-    let actors = load_schedule(alloc, names, &setup, store)?;
-    Ok(Inputs {
-        setup,
-        images,
-        actors,
-    })
+    match load_schedule(alloc, names, &setup, store) {
+        Ok(actors) => {
+            Ok(Inputs {
+                setup,
+                images,
+                actors,
+            })
+        }
+        Err(fault) => Err(fault),
+    }
 }
 
 // Loads what is left once the platform is there.
@@ -209,8 +239,10 @@ fn load_on<F: Store>(
     ensures files_stay { F.files store.new ≡ F.files store.old }
     ensures moved { Leads F.moves store.old store.new }
 {
-    let images = load_images(alloc, names, &setup, store)?;
-    load_with(alloc, names, setup, images, store)
+    match load_images(alloc, names, &setup, store) {
+        Ok(images) => load_with(alloc, names, setup, images, store),
+        Err(fault) => Err(fault),
+    }
 }
 
 // Loads and reads the three input files, one after another.
@@ -225,6 +257,8 @@ pub(crate) fn load_inputs<F: Store>(
     ensures files_stay { F.files store.new ≡ F.files store.old }
     ensures moved { Leads F.moves store.old store.new }
 {
-    let setup = load_platform(alloc, names, store)?;
-    load_on(alloc, names, setup, store)
+    match load_platform(alloc, names, store) {
+        Ok(setup) => load_on(alloc, names, setup, store),
+        Err(fault) => Err(fault),
+    }
 }

@@ -4,7 +4,7 @@ ghost use Rattle.smm_base.specs.MemStore.{file_of, FaultlessStore};
 ghost use Rattle.smm_player.specs.Commands.{texts, form_of};
 ghost use Rattle.smm_player.specs.Outcome.{due};
 
-use crate::play::play;
+use crate::playing::play;
 use smm_base::{MemSink, MemStore};
 use std::alloc::Global;
 
