@@ -1,5 +1,5 @@
 #!/usr/bin/env python3
-"""Makes the inputs of the benchmark in a folder: large schedules, a platform file near 1 MiB, an image file of 64 images."""
+"""Makes the inputs of the benchmark in a folder."""
 import pathlib
 import random
 import sys
@@ -8,13 +8,20 @@ IMAGE_BYTES = 1024
 REVISION = bytes([0x04, 0x00, 0x03, 0x00])
 SMBASE = bytes([0x00, 0x00, 0x03, 0x00])
 
+# so many looks of the chipset before the processor comes
+LOOKS = [0, 1024, 2048, 4096, 8192]
+# so many actors in a schedule of which nearly none makes an event
+ACTORS = [41943, 419430, 4194304]
+# processors and waves of platforms with all processors prompt
+MANY = [(2, 16), (8, 16), (8, 64)]
 
-def platform(processors, visits, polls, ops, tail=""):
+
+def platform(processors, visits, polls, ops, waves=1, tail=""):
     status = ", ".join(['"prompt"'] * processors)
+    wave = f'\n[[wave]]\nstatus = [{status}]\nmanage = ["root"]\n'
     return (
         f'version = 1\nprocessors = {processors}\nmap = "intel64"\npolicy = "elected"\n'
-        f'mode = "traditional"\npolls = [{polls[0]}, {polls[1]}]\nvisits = {visits}\nops = {ops}\n\n'
-        f'[[wave]]\nstatus = [{status}]\nmanage = ["root"]\n{tail}'
+        f'mode = "traditional"\npolls = [{polls[0]}, {polls[1]}]\nvisits = {visits}\nops = {ops}\n{wave * waves}{tail}'
     )
 
 
@@ -50,26 +57,35 @@ def schedule(actors):
     return " ".join(items)
 
 
-def main():
-    folder = pathlib.Path(sys.argv[1])
-    folder.mkdir(parents=True, exist_ok=True)
-    (folder / "one.toml").write_text(platform(1, 256, (71, 71), 1600, handler(0, WRITE)))
-    # the chipset looks as often as it may before a processor comes: as many events as one wave can make
-    (folder / "looks.toml").write_text(platform(1, 1, (4096, 4096), 64))
-    (folder / "looks.txt").write_text("1*3 1*8192 0*15 1*3 0*6")
-    (folder / "begins.txt").write_text("1*3")
-    # 64 handlers of 64 operations and as many causes as fit: its parts are not built, so it is read and then named by status 9
-    text = platform(64, 64, (8, 8), 8, "".join(handler(i, LAUNCH) for i in range(64)))
+def large_platform():
+    """A platform file near 1 MiB: 64 handlers of 64 operations and as many causes as fit. Not all of it is built."""
+    text = platform(64, 64, (8, 8), 8, 1, "".join(handler(i, LAUNCH) for i in range(64)))
     for number in range(4096):
         more = cause(number % 64, number // 64 + 1)
         if len(text) + len(more) > 1048576:
-            break
+            return text
         text += more
-    (folder / "large.toml").write_text(text)
+    return text
+
+
+def main():
+    folder = pathlib.Path(sys.argv[1])
+    folder.mkdir(parents=True, exist_ok=True)
+    (folder / "one.toml").write_text(platform(1, 256, (71, 71), 1600, 1, handler(0, WRITE)))
+    (folder / "looks.toml").write_text(platform(1, 1, (4096, 4096), 64))
+    for looks in LOOKS:
+        (folder / f"looks_{looks}.txt").write_text(f"1*3 {f'1*{looks} ' if looks else ''}0*15 1*3 0*6")
+    for processors, waves in MANY:
+        text = platform(processors, waves, (8, 8), 64, waves, handler(0, WRITE))
+        (folder / f"many_{processors}_{waves}.toml").write_text(text)
+        (folder / f"images_{processors}.smi").write_bytes(images(processors))
+        (folder / f"many_{processors}_{waves}.txt").write_text(f"all*{waves * 200}")
+    (folder / "large.toml").write_text(large_platform())
     (folder / "one.smi").write_bytes(images(1))
-    (folder / "many.smi").write_bytes(images(64))
-    for actors in (41943, 419430, 4194304):
+    (folder / "full.smi").write_bytes(images(64))
+    for actors in ACTORS:
         (folder / f"schedule_{actors}.txt").write_text(schedule(actors))
 
 
-main()
+if __name__ == "__main__":
+    main()

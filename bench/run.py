@@ -1,20 +1,41 @@
 #!/usr/bin/env python3
-"""Times the proved program on large inputs: the least wall time of five turns and the greatest peak of memory that was seen.
+"""Times the proved program on large inputs, and the plain simulator of reference/ beside it on the same files.
 
-Use: bench/run.py, after the program was built (run smmplay once). It needs Python 3 on Linux.
+Use: bench/run.py [--quick], after the program was built (run smmplay once). It needs Python 3.11 on Linux.
+
+A time is the least wall time of some turns of the whole command, with its start, its files and its report. A peak of
+memory is the system's own count (the greatest resident set, by /usr/bin/time; where that isn't there, the greatest that
+was seen while the program ran). The time and the memory of an event are those of a run with many events less those of
+a run with few, divided by the events that are more. Nothing is said of what an entry of a schedule costs that makes
+no event: its actor waits or is off, and mostly its text is all the work.
 """
 import pathlib
+import shutil
 import subprocess
 import sys
 import tempfile
 import time
+from dataclasses import dataclass
+
+from make_inputs import ACTORS, LOOKS, MANY
 
 HERE = pathlib.Path(__file__).resolve().parent
-PROGRAM = HERE.parent / "crates" / "smmplay" / "out" / "smmplay"
+OUT = HERE.parent / "crates" / "smmplay" / "out"
+SIMULATOR = [sys.executable, str(HERE.parent / "reference" / "smmplay.py"), "--all"]
+TIMER = shutil.which("time")
 
 
-def peak_so_far(pid):
-    """The peak of a running process's memory in KiB, or 0 once it has ended."""
+@dataclass
+class Run:
+    """One command: its least seconds, its peak in KiB, its status and the number of its events."""
+    seconds: float
+    peak: int
+    status: int
+    events: int
+
+
+def seen_peak(pid):
+    """The peak of a running process in KiB, or 0 once it has ended."""
     try:
         status = pathlib.Path(f"/proc/{pid}/status").read_text()
     except OSError:
@@ -23,43 +44,96 @@ def peak_so_far(pid):
     return int(peaks[0]) if peaks else 0
 
 
-def run_once(folder, words):
-    """Seconds, peak KiB and exit status of one run, whose report goes to a file."""
+def peak_of(command, folder):
+    """The peak of one run in KiB."""
     with open(folder / "report.txt", "wb") as report:
-        begin = time.perf_counter()
-        child = subprocess.Popen([str(PROGRAM), *words], cwd=folder, stdout=report)
+        if TIMER:
+            words = [TIMER, "-f", "%M", "-o", str(folder / "peak"), *command]
+            subprocess.run(words, cwd=folder, stdout=report)
+            return int((folder / "peak").read_text().split()[-1])
+        child = subprocess.Popen(command, cwd=folder, stdout=report)
         peak = 0
         while child.poll() is None:
-            peak = max(peak, peak_so_far(child.pid))
-        seconds = time.perf_counter() - begin
-    return seconds, peak, child.returncode
+            peak = max(peak, seen_peak(child.pid))
+    return peak
 
 
-def measure(folder, name, words, entries):
-    turns = [run_once(folder, words) for _ in range(5)]
-    seconds = min(turn[0] for turn in turns)
-    peak = max(turn[1] for turn in turns)
-    last = (folder / "report.txt").read_bytes().splitlines()[-1].decode()
-    rate = f"{entries / seconds / 1e6:8.1f} million entries/s" if entries else ""
-    print(f"{name:34} {seconds * 1000:9.1f} ms  {peak:8} KiB  status {turns[0][2]}  {rate}  {last}")
+def timed(command, folder):
+    """Seconds and status of one run, whose report goes to a file."""
+    with open(folder / "report.txt", "wb") as report:
+        begin = time.perf_counter()
+        done = subprocess.run(command, cwd=folder, stdout=report)
+    return time.perf_counter() - begin, done.returncode
+
+
+def measure(program, words, folder, turns):
+    command = [*program, "step", *words, "after.smi"]
+    runs = [timed(command, folder) for _ in range(turns)]
+    last = (folder / "report.txt").read_bytes().splitlines()[-1].split()
+    events = int(last[2]) if len(last) > 2 and last[1] == b"events" else 0
+    return Run(min(run[0] for run in runs), peak_of(command, folder), runs[0][1], events)
+
+
+def row(name, player, run, more=""):
+    numbers = f"{run.status} | {run.events} | {run.seconds * 1000:.2f} ms | {run.peak / 1024:.2f} MiB"
+    print(f"| {name} | {player} | {numbers} | {more} |", flush=True)
+
+
+def per_event(run, few):
+    """What one event more costs, where there are enough more."""
+    more = run.events - few.events
+    if more < 100 or run.status:
+        return ""
+    each = (run.seconds - few.seconds) / more * 1e9
+    return f"{each:.0f} ns, {(run.peak - few.peak) * 1024 / more:.0f} bytes"
+
+
+def growth(player, program, folder, turns):
+    """The same platform with more and more events."""
+    few = None
+    for looks in LOOKS:
+        run = measure(program, ["looks.toml", "one.smi", f"looks_{looks}.txt"], folder, turns)
+        few = few or run
+        row(f"one processor, {looks} looks before it comes", player, run, per_event(run, few))
+
+
+def many_processors(player, program, folder, turns):
+    """Platforms with more processors and waves; the few events are those of the platform with an empty schedule."""
+    (folder / "empty.txt").write_text("")
+    for n, waves in MANY:
+        files = [f"many_{n}_{waves}.toml", f"images_{n}.smi"]
+        few = measure(program, [*files, "empty.txt"], folder, turns)
+        run = measure(program, [*files, f"many_{n}_{waves}.txt"], folder, turns)
+        row(f"{n} processors, {waves} waves", player, run, per_event(run, few))
+
+
+def large_files(player, program, folder, turns):
+    for actors in ACTORS:
+        row(f"a schedule of {actors} actors", player,
+            measure(program, ["one.toml", "one.smi", f"schedule_{actors}.txt"], folder, turns))
+    size = (folder / "large.toml").stat().st_size
+    row(f"a platform file of {size} bytes", player,
+        measure(program, ["large.toml", "one.smi", "schedule_41943.txt"], folder, turns))
+    row("64 images for one processor", player,
+        measure(program, ["one.toml", "full.smi", "schedule_41943.txt"], folder, turns))
 
 
 def main():
-    if not PROGRAM.exists():
+    players = [("smmplay, LLVM", [str(OUT / "smmplay")]), ("smmplay, Rattle's compiler", [str(OUT / "smmplay.by-rattle")])]
+    players = [(name, words) for name, words in players if pathlib.Path(words[0]).is_file()]
+    if not players:
         sys.exit("build the program first: run ./smmplay once")
+    turns = 3 if "--quick" in sys.argv else 15
+    print("| input | player | status | events | time | peak | each event more |\n|---|---|---|---|---|---|---|")
     with tempfile.TemporaryDirectory() as name:
         folder = pathlib.Path(name)
         subprocess.run([sys.executable, str(HERE / "make_inputs.py"), name], check=True)
-        for actors in (41943, 419430, 4194304):
-            words = ["step", "one.toml", "one.smi", f"schedule_{actors}.txt", "after.smi"]
-            measure(folder, f"schedule of {actors}", words, actors)
-        for schedule in ("begins.txt", "looks.txt"):
-            words = ["step", "looks.toml", "one.smi", schedule, "after.smi"]
-            measure(folder, f"{schedule}: few and many events", words, 0)
-        words = ["step", "large.toml", "one.smi", "schedule_41943.txt", "after.smi"]
-        measure(folder, f"platform of {(folder / 'large.toml').stat().st_size} bytes", words, 0)
-        words = ["step", "one.toml", "many.smi", "schedule_41943.txt", "after.smi"]
-        measure(folder, "64 images", words, 0)
+        for player, program in players:
+            for part in (growth, many_processors, large_files):
+                part(player, program, folder, turns)
+        for part in (growth, many_processors):
+            part("simulator", SIMULATOR, folder, 3)
 
 
-main()
+if __name__ == "__main__":
+    main()

@@ -1,6 +1,6 @@
 -- The registers that an image holds.
-use Rattle.std.proofs.Common.{◌≡◌, ℕ, zero, suc, ◌+◌, ◌^◌, ◌<◌, ◌≤◌, inl, inr, Bool, true, false, cond, List, [], ◌∷◌, length, get_or, set, map, Option, Some, refl, sym, ap, subst, ◌∙◌, arith}
-use Rattle.std.specs.Prelude.{unwrap_or, option_map, IsSomeAnd}
+use Rattle.std.proofs.Common.{◌≡◌, ℕ, zero, suc, ◌+◌, ◌^◌, ◌<◌, ◌≤◌, inl, inr, Bool, true, false, cond, List, [], ◌∷◌, length, get_or, set, map, Option, Some, None, refl, sym, ap, subst, ◌∙◌, arith}
+use Rattle.std.specs.Prelude.{unwrap_or, option_map, is_some, ◌&&◌, not, IsSomeAnd}
 use Rattle.std.specs.List.{slice_get}
 use Rattle.std.proofs.lemmas.List.{ext_get_or, length-map, get_or-set_same, get_or-set_other}
 use Rattle.std.proofs.lemmas.Bool.{cases_eq}
@@ -12,7 +12,7 @@ use Rattle.save_state_map.specs.Fields.{field_place, field_index}
 use Rattle.save_state_map.specs.Images.{ImageContents, IsImage, field_of, number_at}
 use Rattle.save_state_map.proofs.Places.{takes_own}
 use Rattle.save_state_map.proofs.Apart.{listed}
-use Rattle.cpu_regs.specs.Registers.{IsRegisters, is_kept, kept_number, loaded}
+use Rattle.cpu_regs.specs.Registers.{IsRegisters, is_event_field, is_kept, kept_number, loaded, register_of}
 
 -- a list made of another is read where the other is
 map_at : {X : Type 0} (f : X → ℕ) (xs : List X) (i : ℕ) (x : X) → slice_get xs i ≡ Some x → get_or (map f xs) i 0 ≡ f x
@@ -60,3 +60,18 @@ loaded_registers m image =
       fit = λ field place there. rw (mapped_number (kept_number m) field) (kept_fits m field place (is_kept m.kind field) image there);
       others = λ field out. mapped_number (kept_number m) field ∙ ap (λ (b : Bool). cond b (unwrap_or (field_of m field) 0) 0) out;
     }
+
+-- a field's number where the map has it and it tells of no interrupt, with the field's place in hand
+kept_where : (bytes : List ℕ) (o : Option Place) (event : Bool)
+    → cond (is_some o && not event) (Some (cond (is_some o && not event) (unwrap_or (option_map (λ p. number_at p bytes) o) 0) 0)) None
+    ≡ cond event None (option_map (λ p. number_at p bytes) o)
+kept_where bytes None true = refl
+kept_where bytes None false = refl
+kept_where bytes (Some place) true = refl
+kept_where bytes (Some place) false = refl
+
+-- the registers that are loaded from an image are its fields, but for those that tell of the interrupt
+pub loaded_fields : (m : ImageContents) (field : Field) → register_of (loaded m) field ≡ cond (is_event_field field) None (field_of m field)
+loaded_fields m field =
+    ap (λ (n : ℕ). cond (is_kept m.kind field) (Some n) None) (mapped_number (kept_number m) field)
+    ∙ kept_where m.bytes (field_place m.kind field) (is_event_field field)

@@ -7,7 +7,5 @@ mod switch;
 
 pub use laws::switch_laws;
 pub use regs::Regs;
+pub use smm_base::{After, Cause, IoCause};
 pub use switch::{enter, resume};
-
-#[cfg(test)]
-mod tests;

@@ -7,7 +7,7 @@ use std::marker::Model;
 
 /// The registers of a processor: a number for each field of its save-state map but Auto HALT, I/O
 /// restart, I/O state and I/O memory address.
-#[derive(Clone, Copy, Debug, PartialEq, Eq)]
+#[derive(Clone, Copy, PartialEq, Eq)]
 pub struct Regs {
     kind: MapKind,
     numbers: [u64; 44],

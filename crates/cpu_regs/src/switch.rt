@@ -3,7 +3,7 @@ ghost use Rattle.save_state_map.specs.declared.field.Field.{Field};
 ghost use Rattle.save_state_map.specs.declared.field.Place.{Place};
 ghost use Rattle.save_state_map.specs.Fields.{field_place};
 ghost use Rattle.save_state_map.specs.Images.{field_of, with_field};
-ghost use Rattle.cpu_regs.specs.Registers.{number_of, loaded};
+ghost use Rattle.cpu_regs.specs.Registers.{loaded};
 ghost use Rattle.cpu_regs.specs.Entering.{io_state, event_number, entered, saved, IsOfNoField, is_set_in, is_restart, after};
 
 use crate::regs::{Regs, is_event};

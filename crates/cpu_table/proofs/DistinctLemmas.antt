@@ -1,17 +1,17 @@
 -- What stays distinct.
-use Rattle.std.proofs.Common.{◌≡◌, ◌==◌, ℕ, Bool, true, false, List, [], ◌∷◌, ◌++◌, IsTrue, refl, arith}
-use Rattle.std.specs.List.{list_any}
-use Rattle.std.proofs.lemmas.Grind.{common_steps}
-use Rattle.std.proofs.lemmas.List.Folds.{list_any-append}
-use Rattle.cpu_table.specs.Distinct.{are_distinct, are_distinct_numbers}
+use Rattle.std.proofs.Common.{◌≡◌, ◌==◌, eqb, ℕ, false, ◌||◌, List, [], ◌∷◌, ◌++◌, refl, ap, ◌∙◌}
+use Rattle.std.specs.Cmp.{nat_eq_equiv}
+use Rattle.std.specs.List.{IsDistinct, list_any}
+use Rattle.std.proofs.lemmas.Map.Keys.{IsDistinct-push}
 
--- one more item keeps them distinct where none before it is the same
-pub are_distinct_push : {A : Type 0} (same : A → A → Bool) (xs : List A) (y : A) →
-    are_distinct same xs ≡ true → list_any (λ x. same x y) xs ≡ false → are_distinct same (xs ++ y ∷ []) ≡ true
-are_distinct_push same [] y d n = refl
-are_distinct_push same (x ∷ xs) y d n =
-    grind (arith, common_steps, list_any-append (same x) xs (y ∷ []), are_distinct_push same xs y)
+either_way : (xs : List ℕ) (y : ℕ) → list_any (eqb y) xs ≡ list_any (λ x. x == y) xs
+either_way [] y = refl
+either_way (x ∷ xs) y = ap (λ b. b || list_any (eqb y) xs) (nat_eq_equiv.symm y x) ∙ ap (λ b. (x == y) || b) (either_way xs y)
 
-pub are_distinct_numbers_push : (xs : List ℕ) (y : ℕ) →
-    IsTrue (are_distinct_numbers xs) → list_any (λ x. x == y) xs ≡ false → IsTrue (are_distinct_numbers (xs ++ y ∷ []))
-are_distinct_numbers_push xs y d n = are_distinct_push (λ a b. a == b) xs y d n
+-- one more number keeps them distinct where none before it is the same
+pub distinct_push : (xs : List ℕ) (y : ℕ) → IsDistinct eqb xs → list_any (λ x. x == y) xs ≡ false → IsDistinct eqb (xs ++ y ∷ [])
+distinct_push xs y distinct fresh = IsDistinct-push nat_eq_equiv xs y distinct (either_way xs y ∙ fresh)
+
+pub none_distinct : IsDistinct eqb []
+unfolding IsDistinct
+none_distinct = tt

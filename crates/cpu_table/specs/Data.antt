@@ -1,5 +1,5 @@
 -- A setup as its data alone, without the facts that its type keeps.
-use Rattle.std.specs.Prelude.{ℕ, ◌+◌, List, Option}
+use Rattle.std.specs.Prelude.{ℕ, List, Option}
 use Rattle.smm_base.specs.declared.kinds.MapKind.{MapKind}
 use Rattle.smm_base.specs.declared.kinds.Policy.{Policy}
 use Rattle.cpu_table.specs.declared.handlers.HandlerDef.{HandlerDef}

@@ -1,12 +1,8 @@
 -- Lists in which no item stands twice.
-use Rattle.std.specs.Prelude.{ℕ, Bool, true, ◌&&◌, ◌==◌, not, List, [], ◌∷◌}
+use Rattle.std.specs.Prelude.{Bool, true, ◌&&◌, not, List, [], ◌∷◌}
 use Rattle.std.specs.List.{list_any}
 
 -- no item is the same as a later one, by this test
 abbrev pub are_distinct : {A : Type 0} → (A → A → Bool) → List A → Bool
 are_distinct same [] = true
 are_distinct same (x ∷ xs) = not (list_any (same x) xs) && are_distinct same xs
-
--- no number stands twice
-abbrev pub are_distinct_numbers : List ℕ → Bool
-are_distinct_numbers = are_distinct (λ x y. x == y)

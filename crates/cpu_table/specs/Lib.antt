@@ -1,4 +1,6 @@
 pub mod Data
 pub mod Distinct
+pub mod Layout
 pub mod Ranges
 pub mod Table
+pub mod Texts

@@ -2,6 +2,7 @@
 use Rattle.std.specs.Prelude.{ℕ, ◌+◌, ◌*◌, Bool, true, false, ◌&&◌, ◌||◌, ◌==◌, nat_lt, nat_le, List, length, Option, Some, None}
 use Rattle.std.specs.List.{list_all}
 use Rattle.std.specs.Str.{bytes_eq}
+use Rattle.smm_base.specs.Register.{is_register_number}
 use Rattle.smm_base.specs.declared.kinds.Policy.{Policy}
 use Rattle.smm_base.specs.declared.kinds.Policy.TheVariants.{Elected, Fixed}
 use Rattle.smm_base.specs.declared.status.Status.{Status}
@@ -54,10 +55,6 @@ is_name name = is_between 1 32 (length name)
 -- two texts have the same bytes
 abbrev pub same_text : List ℕ → List ℕ → Bool
 same_text a b = bytes_eq a b
-
--- a register of the save-state service has this number
-abbrev pub is_register_number : ℕ → Bool
-is_register_number n = is_between 4 10 n || is_between 20 46 n || is_between 51 54 n || is_between 512 514 n || is_between 1024 1025 n
 
 -- there are eight variables
 abbrev pub is_variable : ℕ → Bool

@@ -1,7 +1,6 @@
 -- When a list of ids is refused.
-use Rattle.std.specs.Prelude.{◌≡◌, ℕ, ◌<◌, ◌≤◌, ◌==◌, List, length, take, IsTrue, slice_get, Some}
-use Rattle.std.specs.List.{list_any}
-use Rattle.cpu_table.specs.Distinct.{are_distinct_numbers}
+use Rattle.std.specs.Prelude.{◌≡◌, ℕ, ◌<◌, ◌≤◌, ◌==◌, eqb, List, length, take, IsTrue, slice_get, Some}
+use Rattle.std.specs.List.{list_any, IsDistinct}
 use Rattle.cpu_table.specs.declared.table.TableError.{TableError}
 use Rattle.cpu_table.specs.declared.table.TableError.TheVariants.{TooMany, Repeated, NoMemory}
 
@@ -9,7 +8,7 @@ use Rattle.cpu_table.specs.declared.table.TableError.TheVariants.{TooMany, Repea
 pub record IsFirstRepeated (ids : List ℕ) (id place : ℕ) : Type 0 where
   pub there : slice_get ids place ≡ Some id
   pub earlier : IsTrue (list_any (λ x. x == id) (take place ids))
-  pub first : IsTrue (are_distinct_numbers (take place ids))
+  pub first : IsDistinct eqb (take place ids)
 
 -- the list is refused for this cause
 abbrev pub Refuses : List ℕ → TableError → Type 0

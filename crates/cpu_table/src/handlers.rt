@@ -1,10 +1,6 @@
-ghost use Rattle.std.specs.Prelude.{◌≡◌};
-
-use crate::copying::TryCopy;
 use crate::items::Items;
 use crate::text::Text;
-use smm_base::{HandlerType, NoMemory, Status};
-use std::alloc::Global;
+use smm_base::{HandlerType, Status};
 
 /// What an operation is given: a number of the file, or one of the session's eight variables.
 #[derive(Clone, Copy, Debug, PartialEq, Eq)]
@@ -17,7 +13,7 @@ pub enum Operand {
 /// One operation of a handler. `into` is the number, 0 to 7, of the variable that takes the answer;
 /// `cpu` is a processor's number, which may be one that the platform has not; `reg` is a
 /// register's number in the save-state service (UEFI PI Volume 4); `width` is in bytes, 0 to 24.
-#[derive(Debug, Drop)]
+#[derive(Clone, Drop)]
 pub enum OpDef {
     Set {
         into: u8,
@@ -77,94 +73,8 @@ pub enum OpDef {
     },
 }
 
-impl TryCopy for OpDef {
-    fn try_copy(&self, alloc: Global) -> Result<Self, NoMemory> {
-        Ok(match self {
-            OpDef::Set { into, value } => OpDef::Set {
-                into: *into,
-                value: *value,
-            },
-            OpDef::Read {
-                cpu,
-                reg,
-                width,
-                into,
-            } => {
-                OpDef::Read {
-                    cpu: *cpu,
-                    reg: *reg,
-                    width: *width,
-                    into: *into,
-                }
-            }
-            OpDef::Write {
-                cpu,
-                reg,
-                width,
-                value,
-            } => {
-                OpDef::Write {
-                    cpu: *cpu,
-                    reg: *reg,
-                    width: *width,
-                    value: *value,
-                }
-            }
-            OpDef::Start {
-                cpu,
-                procedure,
-                arg,
-                into,
-            } => {
-                OpDef::Start {
-                    cpu: *cpu,
-                    procedure: procedure.try_copy(alloc)?,
-                    arg: *arg,
-                    into: *into,
-                }
-            }
-            OpDef::Launch {
-                cpu,
-                procedure,
-                arg,
-                into,
-            } => {
-                OpDef::Launch {
-                    cpu: *cpu,
-                    procedure: procedure.try_copy(alloc)?,
-                    arg: *arg,
-                    into: *into,
-                }
-            }
-            OpDef::Check { token } => OpDef::Check { token: *token },
-            OpDef::Wait { token, into } => OpDef::Wait {
-                token: *token,
-                into: *into,
-            },
-            OpDef::Alloc { size, into } => OpDef::Alloc {
-                size: *size,
-                into: *into,
-            },
-            OpDef::Free { place } => OpDef::Free { place: *place },
-            OpDef::Register {
-                handler,
-                kind,
-                into,
-            } => {
-                OpDef::Register {
-                    handler: *handler,
-                    kind: *kind,
-                    into: *into,
-                }
-            }
-            OpDef::Unregister { handle } => OpDef::Unregister { handle: *handle },
-            OpDef::Manage { kind } => OpDef::Manage { kind: *kind },
-        })
-    }
-}
-
 /// A handler of the file.
-#[derive(Debug, Drop)]
+#[derive(Clone, Drop)]
 pub struct HandlerDef {
     /// 1 to 32 bytes, and no other handler's.
     pub name: Text,
@@ -175,17 +85,6 @@ pub struct HandlerDef {
     pub ops: Items<OpDef>,
 }
 
-impl TryCopy for HandlerDef {
-    fn try_copy(&self, alloc: Global) -> Result<Self, NoMemory> {
-        Ok(HandlerDef {
-            name: self.name.try_copy(alloc)?,
-            kind: self.kind,
-            answer: self.answer,
-            ops: self.ops.try_copy(alloc)?,
-        })
-    }
-}
-
 /// What a procedure does with its register.
 #[derive(Clone, Copy, Debug, PartialEq, Eq)]
 pub enum Act {
@@ -194,21 +93,11 @@ pub enum Act {
 }
 
 /// A procedure that an operation may run on another processor.
-#[derive(Debug, Drop)]
+#[derive(Clone, Drop)]
 pub struct ProcedureDef {
     /// 1 to 32 bytes, and no other procedure's.
     pub name: Text,
     pub act: Act,
     /// The register's number in the save-state service.
     pub reg: u32,
-}
-
-impl TryCopy for ProcedureDef {
-    fn try_copy(&self, alloc: Global) -> Result<Self, NoMemory> {
-        Ok(ProcedureDef {
-            name: self.name.try_copy(alloc)?,
-            act: self.act,
-            reg: self.reg,
-        })
-    }
 }

@@ -1,14 +1,12 @@
-ghost use Rattle.std.specs.Prelude.{◌≡◌, ◌↔◌, [], IsTrue, IfOk, length};
+ghost use Rattle.std.specs.Prelude.{◌≡◌, ◌↔◌, [], IsTrue, length};
 ghost use Rattle.std.specs.Slice.Iter.{iter_rest};
 
-use crate::copying::TryCopy;
-use smm_base::NoMemory;
-use std::alloc::Global;
+use std::alloc::AllocError;
 use std::marker::Model;
 use std::slice;
 
 /// A list that a contract sees as its items alone, so that two lists can be compared.
-#[derive(Debug, Drop)]
+#[derive(Drop)]
 pub struct Items<T> {
     items: Vec<T>,
 }
@@ -66,12 +64,15 @@ impl<'a, T> IntoIterator for &'a Items<T> {
     }
 }
 
-impl<T: TryCopy> TryCopy for Items<T> {
-    fn try_copy(&self, alloc: Global) -> Result<Self, NoMemory> {
-        let mut items = Vec::new(alloc);
-        for item in self.items.iter() {
-            items.push(item.try_copy(alloc)?)?;
-        }
-        Ok(Items { items })
+/// The copy has a copy of each item, in the same order.
+impl<T: Clone> Clone for Items<T> {
+    ghost use Rattle.std.specs.List.{AllZip};
+
+    ghost is_clone = { λ list copy. AllZip T.is_clone list copy };
+
+    fn clone(&self) -> Result<Self, AllocError> {
+        Ok(Items {
+            items: self.items.clone()?,
+        })
     }
 }

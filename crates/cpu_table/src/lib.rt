@@ -5,19 +5,17 @@
 mod copying;
 mod handlers;
 mod items;
+mod layout;
 mod setup;
 mod table;
 mod text;
 mod waves;
 
-pub use copying::TryCopy;
 pub use handlers::{Act, HandlerDef, OpDef, Operand, ProcedureDef};
 pub use items::Items;
+pub use layout::{LayoutError, layout_fault};
 pub use setup::{CauseAt, Mode, Setup, Smram};
 pub use smm_base::{HandlerType, Policy};
 pub use table::{CpuTable, TableError};
 pub use text::Text;
 pub use waves::{Arrival, Wave};
-
-#[cfg(test)]
-mod tests;

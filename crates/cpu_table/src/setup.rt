@@ -1,14 +1,15 @@
-ghost use Rattle.std.specs.Prelude.{◌≡◌, ◌<◌, ◌≤◌, IsTrue, length};
+ghost use Rattle.std.specs.Prelude.{◌≡◌, ◌<◌, ◌≤◌, All, IsTrue, eqb, length};
+ghost use Rattle.std.specs.List.{IsDistinct};
+ghost use Rattle.std.proofs.Props.{props};
+ghost use Rattle.cpu_table.specs.Layout.{layout_fits};
 ghost use Rattle.cpu_table.specs.Ranges.{events_at_most, policy_fits, waves_fit, handlers_fit, procedures_fit, causes_fit, smram_fits};
-ghost use Rattle.cpu_table.specs.Distinct.{are_distinct_numbers};
 
-use crate::copying::TryCopy;
+use crate::copying::{copied_causes, copied_handlers, copied_procedures, copied_waves};
 use crate::handlers::{HandlerDef, ProcedureDef};
 use crate::items::Items;
 use crate::table::CpuTable;
 use crate::waves::Wave;
 use smm_base::{Cause, MapKind, NoMemory, Policy};
-use std::alloc::Global;
 
 /// Whom a session waits for before its handlers run. The words are those of the practice of
 /// system-management firmware; what they mean here is the project's own.
@@ -41,14 +42,10 @@ pub struct CauseAt {
     pub cause: Cause,
 }
 
-impl TryCopy for CauseAt {
-    fn try_copy(&self, _alloc: Global) -> Result<Self, NoMemory> {
-        Ok(*self)
-    }
-}
-
-/// A platform. Its type keeps each range, and that no schedule makes more than 4,194,304 events.
-#[derive(Debug, Drop)]
+/// A platform. Its type keeps each range, that SMRAM has room for the processors' areas, and that the
+/// product of the limits, `visits * (40 + t1 + t2 + 10 * processors + 5 * ops) * (processors + 1)`, is
+/// at most 4,194,304.
+#[derive(Drop)]
 pub struct Setup {
     /// 1 to 64.
     pub processors: u16,
@@ -63,7 +60,9 @@ pub struct Setup {
     pub visits: u32,
     /// The units of serving in a session, 1 to 4,096.
     pub ops: u32,
+    /// One for each processor, each below 2^63.
     pub ids: CpuTable,
+    /// Where there is one, it has room for the areas of all processors.
     pub smram: Option<Smram>,
     pub waves: Items<Wave>,
     pub handlers: Items<HandlerDef>,
@@ -75,8 +74,10 @@ pub struct Setup {
     pub ghost visits_in_range: { (1 ≤ visits) × (visits ≤ 256) },
     pub ghost ops_in_range: { (1 ≤ ops) × (ops ≤ 4096) },
     pub ghost ids_for_each: { length ids ≡ processors },
-    pub ghost ids_distinct: { IsTrue (are_distinct_numbers ids) },
+    pub ghost ids_distinct: { IsDistinct eqb ids } by { Prim.hlevel props },
+    pub ghost ids_in_range: { All (λ id. id < 9223372036854775808) ids },
     pub ghost smram_in_range: { IsTrue (smram_fits smram) },
+    pub ghost smram_has_room: { IsTrue (layout_fits processors smram) },
     pub ghost waves_in_range: { IsTrue (waves_fit processors visits waves) },
     pub ghost handlers_in_range: { IsTrue (handlers_fit handlers) },
     pub ghost procedures_in_range: { IsTrue (procedures_fit procedures) },
@@ -88,7 +89,7 @@ impl Setup {
     ghost use Rattle.std.specs.Prelude.{IfOk};
 
     /// An equal setup.
-    pub fn copy(&self, alloc: Global) -> Result<Setup, NoMemory>
+    pub fn copy(&self) -> Result<Setup, NoMemory>
         ensures { IfOk result (λ copy. copy ≡ self.now) }
     {
         Ok(Setup {
@@ -100,12 +101,12 @@ impl Setup {
             t2: self.t2,
             visits: self.visits,
             ops: self.ops,
-            ids: self.ids.try_copy(alloc)?,
+            ids: self.ids.clone()?,
             smram: self.smram,
-            waves: self.waves.try_copy(alloc)?,
-            handlers: self.handlers.try_copy(alloc)?,
-            procedures: self.procedures.try_copy(alloc)?,
-            causes: self.causes.try_copy(alloc)?,
+            waves: copied_waves(&self.waves)?,
+            handlers: copied_handlers(&self.handlers)?,
+            procedures: copied_procedures(&self.procedures)?,
+            causes: copied_causes(&self.causes)?,
         })
     }
 }

@@ -1,8 +1,7 @@
-ghost use Rattle.std.specs.Prelude.{◌≡◌, ◌==◌, ◌<◌, ◌≤◌, IsTrue, IfOk, IfErr, IfSome, OnOk, length, position, slice_get};
+ghost use Rattle.std.specs.Prelude.{◌≡◌, ◌==◌, ◌<◌, ◌≤◌, IfOk, IfErr, IfSome, OnOk, eqb, length, position, slice_get};
+ghost use Rattle.std.specs.List.{IsDistinct};
 
-use crate::copying::TryCopy;
-use smm_base::NoMemory;
-use std::alloc::{AllocFailed, Global};
+use std::alloc::{AllocError, AllocFailed, Global};
 use std::fmt;
 use std::marker::Model;
 
@@ -19,12 +18,18 @@ pub enum TableError {
     NoMemory,
 }
 
+/// The cause, and after it the number: `too-many COUNT`, `repeated ID` or `no memory`.
 impl fmt::Display for TableError {
+    ghost use Rattle.std.specs.Prelude.{Some};
+    ghost use Rattle.cpu_table.specs.Texts.{table_error_text};
+
+    ghost output = { λ error. Some (table_error_text error) };
+
     fn fmt<W: fmt::Write>(&self, f: &mut fmt::Formatter<W>) -> fmt::Result {
         match self {
-            TableError::TooMany(count) => write!(f, "{count} ids are more than 64"),
-            TableError::Repeated(id) => write!(f, "the id {id} stands twice"),
-            TableError::NoMemory => f.write_str("out of memory"),
+            TableError::TooMany(count) => write!(f, "too-many {count}"),
+            TableError::Repeated(id) => write!(f, "repeated {id}"),
+            TableError::NoMemory => f.write_str("no memory"),
         }
     }
 }
@@ -48,31 +53,30 @@ fn place_of(ids: &[u64], id: u64) -> Option<usize>
 }
 
 /// The ids of the processors, by processor number: at most 64, and no two the same.
-#[derive(Debug, Drop)]
+#[derive(Drop)]
 pub struct CpuTable {
     ids: Vec<u64>,
 }
 
 impl Model for CpuTable {
-    ghost use Rattle.std.specs.Prelude.{List, ℕ, ◌≤◌, length, IsTrue};
-    ghost use Rattle.cpu_table.specs.Distinct.{are_distinct_numbers};
+    ghost use Rattle.std.specs.Prelude.{List, ℕ, ◌≤◌, eqb, length};
+    ghost use Rattle.std.specs.List.{IsDistinct};
 
     ghost Value = { List ℕ };
 
     ghost view = { λ table. table.ids.items };
 
-    ghost invariant = { λ table. (length table.ids.items ≤ 64) × IsTrue (are_distinct_numbers table.ids.items) };
+    ghost invariant = { λ table. (length table.ids.items ≤ 64) × IsDistinct eqb table.ids.items };
 }
 
 impl CpuTable {
-    ghost use Rattle.cpu_table.specs.Distinct.{are_distinct_numbers};
     ghost use Rattle.cpu_table.specs.Table.{Refuses};
 
     /// The table with the ids in this order. The number of ids is judged first.
     pub fn new(alloc: Global, ids: &[u64]) -> Result<CpuTable, TableError>
         ensures ok { IfOk result (λ table. table ≡ ids.now) }
         ensures few { OnOk result (length ids.now ≤ 64) }
-        ensures distinct { OnOk result (IsTrue (are_distinct_numbers ids.now)) }
+        ensures distinct { OnOk result (IsDistinct eqb ids.now) }
         ensures refused { IfErr result (Refuses ids.now) }
     {
         if ids.len() > MOST_PROCESSORS {
@@ -92,7 +96,7 @@ impl CpuTable {
     pub fn len(&self) -> usize
         ensures len { result ≡ length self.now }
         ensures few { length self.now ≤ 64 }
-        ensures distinct { IsTrue (are_distinct_numbers self.now) }
+        ensures distinct { IsDistinct eqb self.now }
     {
         self.ids.len()
     }
@@ -115,10 +119,13 @@ impl CpuTable {
     }
 }
 
-impl TryCopy for CpuTable {
-    fn try_copy(&self, alloc: Global) -> Result<Self, NoMemory> {
-        let mut ids = Vec::new(alloc);
-        ids.extend_from_slice(self.ids.as_slice())?;
-        Ok(CpuTable { ids })
+/// The copy has the same ids in the same order.
+impl Clone for CpuTable {
+    ghost is_clone = { λ table copy. copy ≡ table };
+
+    fn clone(&self) -> Result<Self, AllocError> {
+        Ok(CpuTable {
+            ids: self.ids.clone()?,
+        })
     }
 }

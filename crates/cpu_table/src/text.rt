@@ -1,8 +1,7 @@
 ghost use Rattle.std.specs.Prelude.{◌≡◌, string_bytes, IfOk};
 
-use crate::copying::TryCopy;
 use smm_base::NoMemory;
-use std::alloc::Global;
+use std::alloc::{AllocError, Global};
 use std::marker::Model;
 
 /// A text that a contract sees as its bytes alone, so that two texts can be compared.
@@ -40,8 +39,13 @@ impl Text {
     }
 }
 
-impl TryCopy for Text {
-    fn try_copy(&self, alloc: Global) -> Result<Self, NoMemory> {
-        Text::from_str(alloc, self.as_str())
+/// The copy has the same bytes.
+impl Clone for Text {
+    ghost is_clone = { λ text copy. copy ≡ text };
+
+    fn clone(&self) -> Result<Self, AllocError> {
+        Ok(Text {
+            text: self.text.clone()?,
+        })
     }
 }

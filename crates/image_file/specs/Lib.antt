@@ -1,3 +1,4 @@
 pub mod Spelling
 pub mod Refusals
 pub mod Contents
+pub mod Texts

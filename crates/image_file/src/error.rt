@@ -1,7 +1,9 @@
-ghost use Rattle.std.specs.Prelude.{◌≡◌};
+ghost use Rattle.std.specs.Prelude.{◌≡◌, Some};
 ghost use Rattle.image_file.specs.declared.error.ImagesError.TheVariants.{NoMemory};
+ghost use Rattle.image_file.specs.Texts.{images_error_text};
 
 use std::alloc::{AllocError, AllocFailed};
+use std::fmt;
 
 /// Why bytes are no image file: the first check that fails, in the order of the header, and then of the length.
 #[derive(Clone, Copy, Debug, PartialEq, Eq)]
@@ -20,6 +22,23 @@ pub enum ImagesError {
     Long(usize),
     /// No memory was left for the images.
     NoMemory,
+}
+
+/// Writes the words that stand after `fault images `, and `no memory` for want of memory.
+impl fmt::Display for ImagesError {
+    ghost output = { λ error. Some (images_error_text error) };
+
+    fn fmt<W: fmt::Write>(&self, f: &mut fmt::Formatter<W>) -> fmt::Result {
+        match self {
+            ImagesError::Short(length) => write!(f, "short {length}"),
+            ImagesError::Magic => f.write_str("magic"),
+            ImagesError::Version(version) => write!(f, "version {version}"),
+            ImagesError::Kind(kind) => write!(f, "kind {kind}"),
+            ImagesError::Count(count) => write!(f, "count {count}"),
+            ImagesError::Long(length) => write!(f, "long {length}"),
+            ImagesError::NoMemory => f.write_str("no memory"),
+        }
+    }
 }
 
 impl From<AllocError> for ImagesError {

@@ -10,6 +10,3 @@ pub use error::ImagesError;
 pub use laws::file_laws;
 pub use reading::read_images;
 pub use writing::write_images;
-
-#[cfg(test)]
-mod tests;

@@ -1,4 +1,4 @@
-ghost use Rattle.std.specs.Prelude.{◌≡◌, ◌≢◌, ◌*◌, ◌≤◌, List, length, drop, Some, None, Err, IfOk, IfErr, MatchResult};
+ghost use Rattle.std.specs.Prelude.{◌≡◌, ◌≢◌, ◌*◌, ◌≤◌, List, length, Some, None, Err, IfOk, IfErr, MatchResult};
 ghost use Rattle.save_state_map.specs.Fields.{image_length};
 ghost use Rattle.save_state_map.specs.Images.{ImageContents};
 ghost use Rattle.image_file.specs.declared.error.ImagesError.{ImagesError};

@@ -3,38 +3,24 @@ use Rattle.std.proofs.Common.{◌≡◌, ℕ, ◌+◌, ◌<◌, ◌≤◌, List,
 use Rattle.std.proofs.Math.Seq.{drop-cons}
 use Rattle.std.proofs.lemmas.List.{drop_all}
 use Rattle.toml.specs.Data.{Data, Members}
-use Rattle.platform_file.specs.declared.path.Place.{Place}
+use Rattle.platform_file.specs.declared.path.TablePlace.{TablePlace}
 use Rattle.platform_file.specs.declared.path.Key.{Key}
-use Rattle.platform_file.specs.declared.fault.Fault.{Fault}
-use Rattle.platform_file.specs.Reading.{Reading, then_on, StopsAt, each, unknown_in, unless_unknown, and_no_other, IsOther}
-
--- a first step that stops, stops the whole
-pub stops_first : {A B : Type 0} (r : Reading A) (next : A → Reading B) (fault : Fault) → StopsAt r fault → StopsAt (then_on r next) fault
-stops_first r next fault stops = elim stops [ inl is ↦ inl is | inr is ↦ inr (ap (λ x. then_on x next) is) ]
+use Rattle.platform_file.specs.declared.fault.WalkFault.{WalkFault}
+use Rattle.platform_file.specs.Reading.{Reading, read_then, StopsAt, each, unknown_in, unless_unknown, and_no_other, IsOther}
 
 -- where the first step reads, the second one decides
-pub then_found : {A B : Type 0} (r : Reading A) (next : A → Reading B) (a : A) → r ≡ Ok a → then_on r next ≡ next a
-then_found r next a is = ap (λ x. then_on x next) is
-
-pub stops_then : {A B : Type 0} (r : Reading A) (next : A → Reading B) (a : A) (fault : Fault) → r ≡ Ok a → StopsAt (next a) fault → StopsAt (then_on r next) fault
-stops_then r next a fault is stops = elim stops [ inl e ↦ inl e | inr e ↦ inr (then_found r next a is ∙ e) ]
-
--- a table with no other key is what was read
-pub no_other : {A : Type 0} (place : Place) (keys : List Key) (table : Members) (found : A) → unknown_in keys table ≡ None → and_no_other place keys table found ≡ Ok found
-no_other place keys table found none = ap (unless_unknown place found) none
-
-pub other_stops : {A : Type 0} (place : Place) (keys : List Key) (table : Members) (found : A) (fault : Fault) → IsOther place (unknown_in keys table) fault → StopsAt (and_no_other place keys table found) fault
-other_stops place keys table found fault other = elim other [ inl is ↦ inl is | inr x ↦ inr (ap (unless_unknown place found) x.1 ∙ ap Err (sym x.2)) ]
+pub then_found : {A B : Type 0} (r : Reading A) (next : A → Reading B) (a : A) → r ≡ Ok a → read_then r next ≡ next a
+then_found r next a is = ap (λ x. read_then x next) is
 
 -- the rest of a list from one place on, where this value stands
 next_value : {V : Type 0} (vs : List V) (i : ℕ) (v : V) → i < length vs → v ≡ get_or vs i v → drop i vs ≡ v ∷ drop (i + 1) vs
 next_value vs i v within at = drop-cons vs i v within ∙ ap (λ n. get_or vs i v ∷ drop n vs) (sym (add-one i)) ∙ ap (λ x. x ∷ drop (i + 1) vs) (sym at)
 
 rest_next : {A V : Type 0} (read : List A → Data → Reading A) (see : V → Data) (done seen : List A) (vs : List V) (i : ℕ) (v : V) → i < length vs → v ≡ get_or vs i v → seen ≡ done →
-    each read done (map see (drop i vs)) ≡ then_on (read seen (see v)) (λ x. each read (done ++ x ∷ []) (map see (drop (i + 1) vs)))
+    each read done (map see (drop i vs)) ≡ read_then (read seen (see v)) (λ x. each read (done ++ x ∷ []) (map see (drop (i + 1) vs)))
 rest_next read see done seen vs i v within at same =
     ap (λ ys. each read done (map see ys)) (next_value vs i v within at)
-    ∙ ap (λ ys. then_on (read ys (see v)) (λ x. each read (done ++ x ∷ []) (map see (drop (i + 1) vs)))) (sym same)
+    ∙ ap (λ ys. read_then (read ys (see v)) (λ x. each read (done ++ x ∷ []) (map see (drop (i + 1) vs)))) (sym same)
 
 -- an element that was read, by the elements before it as the reader saw them
 pub each_found : {A V : Type 0} (read : List A → Data → Reading A) (see : V → Data) (done seen : List A) (x : A) (vs : List V) (i : ℕ) (v : V) → i < length vs → v ≡ get_or vs i v → seen ≡ done →
@@ -43,10 +29,10 @@ each_found read see done seen x vs i v within at same is =
     sym (rest_next read see done seen vs i v within at same ∙ then_found (read seen (see v)) (λ y. each read (done ++ y ∷ []) (map see (drop (i + 1) vs))) x is)
 
 -- an element at which reading stops
-pub each_stops : {A V : Type 0} (read : List A → Data → Reading A) (see : V → Data) (done seen : List A) (vs : List V) (i : ℕ) (v : V) (fault : Fault) (all : Reading (List A)) → i < length vs → v ≡ get_or vs i v → seen ≡ done →
+pub each_stops : {A V : Type 0} (read : List A → Data → Reading A) (see : V → Data) (done seen : List A) (vs : List V) (i : ℕ) (v : V) (fault : WalkFault) (all : Reading (List A)) → i < length vs → v ≡ get_or vs i v → seen ≡ done →
     StopsAt (read seen (see v)) fault → each read done (map see (drop i vs)) ≡ all → StopsAt all fault
 each_stops {A = A} read see done seen vs i v fault all within at same stops is =
-    let later : Reading A → Reading (List A) = λ (r : Reading A). then_on r (λ y. each read (done ++ y ∷ []) (map see (drop (i + 1) vs))) in
+    let later : Reading A → Reading (List A) = λ (r : Reading A). read_then r (λ y. each read (done ++ y ∷ []) (map see (drop (i + 1) vs))) in
     elim stops [ inl e ↦ inl e | inr e ↦ inr (sym is ∙ rest_next read see done seen vs i v within at same ∙ ap later e) ]
 
 -- the end of the list

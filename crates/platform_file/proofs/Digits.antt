@@ -47,18 +47,12 @@ numeral ds are =
     let less : length ds ≤ 16 = grind (arith, nat_tests) in
     subst P (sym (as_written ds all)) ((more, all_digits ds all), fits ds less (all_digits ds all))
 
--- so a parser reads them
-pub parsed_number : (ds : List ℕ) (n : ℕ) → are_digits ds ≡ true → n ≡ digits_value 16 (without_leading_plus ds) → Some n ≡ number_of_digits ds
-parsed_number ds n are is =
-    let (count, all) = and_parts (nat_le 1 (length ds) && nat_le (length ds) 16) (list_all (λ c. is_digit c 16) ds) are in
-    ap Some (is ∙ ap (λ xs. digits_value 16 xs) (as_written ds all)) ∙ sym (ap (λ b. if b then Some (digits_value 16 ds) else None) are)
-
 pub never_fails : (ds : List ℕ) → are_digits ds ≡ true → ¬ (IsNumeral 16 (without_leading_plus ds) × (digits_value 16 (without_leading_plus ds) < 2 ^ 64)) → ⊥
 never_fails ds are fails = fails (numeral ds are)
 
--- a text with the prefix is read by what stands behind it
-pub hexadecimal_behind : (s x : List ℕ) → StripsPrefix (FindsTextPrefix (codes "0x")) s x → number_of_digits x ≡ hexadecimal_of s
-hexadecimal_behind s x strips =
+-- a text with the prefix is read by what stands after it
+pub hexadecimal_after : (s x : List ℕ) → StripsPrefix (FindsTextPrefix (codes "0x")) s x → number_of_digits x ≡ hexadecimal_of s
+hexadecimal_after s x strips =
     let n = strips.0 in
     let found = strips.1 in
     let starts = starts_text true (codes "0x") s (n, found, rw found.0 found.2) in

@@ -10,10 +10,10 @@ use Rattle.toml.specs.View.{view, items_of, items_view, members_view}
 use Rattle.toml.specs.declared.value.Value.{Value}
 use Rattle.platform_file.specs.declared.path.Key.{Key}
 use Rattle.platform_file.specs.declared.path.Path.{Path}
-use Rattle.platform_file.specs.declared.fault.Fault.TheVariants.{WrongType}
+use Rattle.platform_file.specs.declared.fault.WalkFault.TheVariants.{WrongType}
 use Rattle.smm_base.specs.Kinds.{is_io_length, is_io_type}
 use Rattle.platform_file.specs.Causes.{on_true, instruction}
-use Rattle.platform_file.specs.Reading.{Reading, then_on, data_list, counted, list_of, is_known, unknown_in}
+use Rattle.platform_file.specs.Reading.{Reading, read_then, data_list, counted, list_of, is_known, unknown_in}
 
 -- an array as the list of its values
 data_list_of : (ds : List Data) → data_list (items_of ds) ≡ ds
@@ -25,7 +25,7 @@ pub list_from : (path : Path) (first last : ℕ) (d : Data) (vs slice : List Val
 list_from path first last d vs slice r some same is =
     is ∙ ap (λ xs. counted path first last (map view xs)) same
     ∙ sym (ap (λ xs. counted path first last xs) (data_list_of (map view vs)))
-    ∙ ap (λ o. then_on (ok_or (option_map data_list o) (WrongType path)) (counted path first last)) some
+    ∙ ap (λ o. read_then (ok_or (option_map data_list o) (WrongType path)) (counted path first last)) some
 
 -- the first unknown key, as the map's keys have it
 other_or : (keys : List Key) (known : Bool) (name : String Global) (more : Option (String Global)) (rest : Option (List ℕ)) → option_map string_bytes more ≡ rest →

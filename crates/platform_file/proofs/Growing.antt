@@ -1,9 +1,13 @@
 -- Lists that grow by one element at the end.
-use Rattle.std.proofs.Common.{◌≡◌, ◌≢◌, ◌<◌, ℕ, zero, suc, ◌+◌, ◌==◌, Bool, true, false, not, ◌&&◌, ◌||◌, List, [], ◌∷◌, ◌++◌, length, length-append, refl, ap, sym, ◌∙◌, arith}
+use Rattle.std.proofs.Common.{◌≡◌, ◌<◌, ◌≤◌, All, eqb, ℕ, zero, suc, ◌+◌, ◌==◌, Bool, true, false, not, ◌&&◌, ◌||◌, List, [], ◌∷◌, ◌++◌, get_or, length, length-append, refl, ap, sym, subst, ◌∙◌, arith}
 use Rattle.std.proofs.lemmas.Bool.{and_parts, false≢true}
-use Rattle.std.specs.List.{list_any, list_all, range_with_len}
+use Rattle.std.specs.Cmp.{nat_eq_equiv}
+use Rattle.std.specs.List.{IsDistinct, list_any, list_all, range_with_len}
+use Rattle.std.proofs.lemmas.List.Elements.{All-from_get_or}
+use Rattle.std.proofs.lemmas.List.FromFn.{get_or-range_with_len, length-range_with_len}
+use Rattle.std.proofs.lemmas.Map.Keys.{IsDistinct-from_apart, IsDistinct-push}
 use Rattle.std.proofs.lemmas.Bool.{ne_eqb}
-use Rattle.cpu_table.specs.Distinct.{are_distinct, are_distinct_numbers}
+use Rattle.cpu_table.specs.Distinct.{are_distinct}
 
 and_both : (a b : Bool) → a ≡ true → b ≡ true → a && b ≡ true
 and_both true b x y = y
@@ -61,25 +65,38 @@ numbers_more n =
 pub length_more : {A : Type 0} (xs : List A) (x : A) (n : ℕ) → length xs ≡ n → length (xs ++ x ∷ []) ≡ n + 1
 length_more xs x n is = omega (arith, length-append xs (x ∷ []), is)
 
-length_of_range : (a n : ℕ) → length (range_with_len a n) ≡ n
-length_of_range a zero = refl
-length_of_range a (suc n) = ap suc (length_of_range (a + 1) n)
+pub none_distinct : IsDistinct eqb []
+unfolding IsDistinct
+none_distinct = tt
 
-range_apart : (a b n : ℕ) → a < b → list_any (λ y. a == y) (range_with_len b n) ≡ false
-range_apart a b zero low = refl
-range_apart a b (suc n) low =
-    let apart : a ≢ b = omega (arith, low) in
-    neither_or (a == b) (list_any (λ y. a == y) (range_with_len (b + 1) n)) (ne_eqb a b apart) (range_apart a (b + 1) n (omega (arith, low)))
+-- one more number keeps numbers distinct where none before it is the same
+either_way : (xs : List ℕ) (y : ℕ) → list_any (eqb y) xs ≡ list_any (λ x. x == y) xs
+either_way [] y = refl
+either_way (x ∷ xs) y = ap (λ b. b || list_any (eqb y) xs) (nat_eq_equiv.symm y x) ∙ ap (λ b. (x == y) || b) (either_way xs y)
 
-range_distinct : (a n : ℕ) → are_distinct_numbers (range_with_len a n) ≡ true
-range_distinct a zero = refl
-range_distinct a (suc n) =
-    and_both (not (list_any (λ y. a == y) (range_with_len (a + 1) n))) (are_distinct_numbers (range_with_len (a + 1) n))
-    (ap not (range_apart a (a + 1) n (omega arith))) (range_distinct (a + 1) n)
+pub numbers_distinct_more : (xs : List ℕ) (y : ℕ) → IsDistinct eqb xs → list_any (λ x. x == y) xs ≡ false → IsDistinct eqb (xs ++ y ∷ [])
+numbers_distinct_more xs y distinct fresh = IsDistinct-push nat_eq_equiv xs y distinct (either_way xs y ∙ fresh)
 
 -- the numbers below a number are so many, and no two the same
 pub numbers_count : (xs : List ℕ) (n : ℕ) → xs ≡ range_with_len 0 n → length xs ≡ n
-numbers_count xs n is = ap length is ∙ length_of_range 0 n
+numbers_count xs n is = ap length is ∙ length-range_with_len 0 n
 
-pub numbers_distinct : (xs : List ℕ) (n : ℕ) → xs ≡ range_with_len 0 n → are_distinct_numbers xs ≡ true
-numbers_distinct xs n is = ap are_distinct_numbers is ∙ range_distinct 0 n
+apart_at : (n i j d : ℕ) → i < j → j < length (range_with_len 0 n) → eqb (get_or (range_with_len 0 n) i d) (get_or (range_with_len 0 n) j d) ≡ false
+apart_at n i j d less within =
+    let count = length-range_with_len 0 n in
+    let first : get_or (range_with_len 0 n) i d ≡ 0 + i = get_or-range_with_len 0 n i d (omega (arith, less, within, count)) in
+    let second : get_or (range_with_len 0 n) j d ≡ 0 + j = get_or-range_with_len 0 n j d (omega (arith, within, count)) in
+    ne_eqb (get_or (range_with_len 0 n) i d) (get_or (range_with_len 0 n) j d) (λ same. omega (arith, first, second, same, less))
+
+pub numbers_distinct : (xs : List ℕ) (n : ℕ) → xs ≡ range_with_len 0 n → IsDistinct eqb xs
+numbers_distinct xs n is = subst (λ (ys : List ℕ). IsDistinct eqb ys) (sym is) (IsDistinct-from_apart eqb (range_with_len 0 n) (apart_at n))
+
+-- and each is below it
+pub numbers_small : (xs : List ℕ) (n limit : ℕ) → n ≤ limit → xs ≡ range_with_len 0 n → All (λ x. x < limit) xs
+numbers_small xs n limit few is =
+    subst (λ (ys : List ℕ). All (λ x. x < limit) ys) (sym is) (All-from_get_or (λ x. x < limit) (range_with_len 0 n) 0 (λ i within. small_at i within)) where
+      small_at : (i : ℕ) → i < length (range_with_len 0 n) → get_or (range_with_len 0 n) i 0 < limit
+      small_at i within =
+          let count = length-range_with_len 0 n in
+          let value : get_or (range_with_len 0 n) i 0 ≡ 0 + i = get_or-range_with_len 0 n i 0 (omega (arith, within, count)) in
+          omega (arith, value, within, count, few)

@@ -3,7 +3,4 @@ pub mod Digits
 pub mod Documents
 pub mod Fits
 pub mod Growing
-pub mod ScheduleKnown
-pub mod ScheduleLists
-pub mod ScheduleSteps
 pub mod Tables

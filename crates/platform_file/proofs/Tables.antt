@@ -1,45 +1,33 @@
 -- A list of ids without two that are the same is refused by no table.
-use Rattle.std.proofs.Common.{◌≡◌, ℕ, zero, suc, ◌==◌, ◌≤◌, Bool, true, false, not, ◌||◌, List, [], ◌∷◌, length, take, Some, refl, ap, ◌∙◌, arith}
+use Rattle.std.proofs.Common.{◌≡◌, ℕ, zero, suc, ◌==◌, ◌≤◌, Bool, true, false, ◌||◌, eqb, List, [], ◌∷◌, length, take, Some, refl, ap, subst, sym, ◌∙◌, arith}
 use Rattle.std.specs.Prelude.{slice_get}
-use Rattle.std.proofs.lemmas.Bool.{and_parts, false≢true}
+use Rattle.std.proofs.lemmas.Bool.{false≢true}
 use Rattle.std.proofs.lemmas.Option.{same_Some}
-use Rattle.std.specs.List.{list_any}
-use Rattle.cpu_table.specs.Distinct.{are_distinct_numbers}
+use Rattle.std.proofs.lemmas.Map.Keys.{IsDistinct-head, IsDistinct-tail}
+use Rattle.std.specs.List.{AllByRecursion, IsDistinct, list_any}
 use Rattle.cpu_table.specs.Table.{Refuses}
 use Rattle.cpu_table.specs.declared.table.TableError.{TableError}
 use Rattle.cpu_table.specs.declared.table.TableError.TheVariants.{TooMany, Repeated, NoMemory}
 
-or_left : (a b : Bool) → a ≡ true → a || b ≡ true
-or_left a b is = rw is
+-- a number that differs from each of a list differs from the one at a place
+apart : (x id : ℕ) (xs : List ℕ) (p : ℕ) → AllByRecursion (λ y. eqb x y ≡ false) xs → slice_get xs p ≡ Some id → (x == id) ≡ false
+apart x id [] p alone there = cc
+apart x id (y ∷ ys) zero alone there = subst (λ (z : ℕ). (x == z) ≡ false) (same_Some _ _ there) alone.0
+apart x id (y ∷ ys) (suc p) alone there = apart x id ys p alone.1 there
 
-or_right : (a b : Bool) → b ≡ true → a || b ≡ true
-or_right true b is = refl
-or_right false b is = is
-
--- a number that stands in the list is found there
-is_found : (x id : ℕ) (xs : List ℕ) (p : ℕ) → (x == id) ≡ true → slice_get xs p ≡ Some id → list_any (λ y. x == y) xs ≡ true
-is_found x id [] p same there = cc
-is_found x id (y ∷ ys) zero same there = or_left (x == y) (list_any (λ z. x == z) ys) (ap (λ z. x == z) (same_Some _ _ there) ∙ same)
-is_found x id (y ∷ ys) (suc p) same there = or_right (x == y) (list_any (λ z. x == z) ys) (is_found x id ys p same there)
-
-not_true : (a : Bool) → not a ≡ true → a ≡ true → ⊥
-not_true true apart is = false≢true apart
-not_true false apart is = false≢true is
-
-by_first : (same : Bool) (x id : ℕ) (xs : List ℕ) (p : ℕ) → (x == id) ≡ same → not (list_any (λ y. x == y) xs) ≡ true → slice_get xs p ≡ Some id →
-    same || list_any (λ y. y == id) (take p xs) ≡ true → (list_any (λ y. y == id) (take p xs) ≡ true → ⊥) → ⊥
-by_first true x id xs p is alone there earlier later = not_true (list_any (λ y. x == y) xs) alone (is_found x id xs p is there)
-by_first false x id xs p is alone there earlier later = later earlier
+first_apart : (same others : Bool) → same ≡ false → same || others ≡ true → others ≡ true
+first_apart true others apart some = absurd (false≢true (sym apart))
+first_apart false others apart some = some
 
 -- so none stands before its place
-no_repeat : (ids : List ℕ) (id place : ℕ) → are_distinct_numbers ids ≡ true → slice_get ids place ≡ Some id → list_any (λ x. x == id) (take place ids) ≡ true → ⊥
+no_repeat : (ids : List ℕ) (id place : ℕ) → IsDistinct eqb ids → slice_get ids place ≡ Some id → list_any (λ x. x == id) (take place ids) ≡ true → ⊥
 no_repeat [] id place distinct there earlier = cc
 no_repeat (x ∷ xs) id zero distinct there earlier = false≢true earlier
 no_repeat (x ∷ xs) id (suc p) distinct there earlier =
-    let (here, more) = and_parts (not (list_any (λ y. x == y) xs)) (are_distinct_numbers xs) distinct in
-    by_first (x == id) x id xs p refl here there earlier (no_repeat xs id p more there)
+    let differs = apart x id xs p (IsDistinct-head eqb x xs distinct) there in
+    no_repeat xs id p (IsDistinct-tail eqb x xs distinct) there (first_apart (x == id) (list_any (λ y. y == id) (take p xs)) differs earlier)
 
-pub only_memory : (ids : List ℕ) (error : TableError) → length ids ≤ 64 → are_distinct_numbers ids ≡ true → Refuses ids error → error ≡ NoMemory
+pub only_memory : (ids : List ℕ) (error : TableError) → length ids ≤ 64 → IsDistinct eqb ids → Refuses ids error → error ≡ NoMemory
 only_memory ids (TooMany count) few distinct refuses = absurd (omega (arith, few, refuses.0))
 only_memory ids (Repeated id) few distinct refuses =
     let first = refuses.1.1 in

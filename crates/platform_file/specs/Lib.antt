@@ -5,9 +5,7 @@ pub mod Head
 pub mod Operations
 pub mod Path
 pub mod Reading
-pub mod Registers
-pub mod Schedule
-pub mod ScheduleInside
+pub mod Texts
 pub mod Walk
 pub mod Waves
 pub mod Words

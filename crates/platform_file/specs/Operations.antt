@@ -4,45 +4,44 @@ use Rattle.std.specs.List.{position}
 use Rattle.std.specs.Option.{option_and_then}
 use Rattle.std.specs.Str.{bytes_eq}
 use Rattle.toml.specs.Data.{Data, Members, get, as_str, as_integer}
-use Rattle.smm_base.specs.Register.{register_number}
+use Rattle.smm_base.specs.Register.{register_named, register_number}
 use Rattle.smm_base.specs.declared.kinds.HandlerType.{HandlerType}
 use Rattle.cpu_table.specs.declared.handlers.Operand.{Operand}
 use Rattle.cpu_table.specs.declared.handlers.Operand.TheVariants.{Number}
 use Rattle.cpu_table.specs.declared.handlers.OpDef.{OpDef}
 use Rattle.cpu_table.specs.declared.handlers.OpDef.TheVariants as op
-use Rattle.platform_file.specs.declared.path.Place.{Place}
-use Rattle.platform_file.specs.declared.path.Place.TheVariants as place
+use Rattle.platform_file.specs.declared.path.TablePlace.{TablePlace}
+use Rattle.platform_file.specs.declared.path.TablePlace.TheVariants as place
 use Rattle.platform_file.specs.declared.path.Key.{Key}
 use Rattle.platform_file.specs.declared.path.Key.TheVariants as key
 use Rattle.platform_file.specs.declared.path.Path.{Path}
-use Rattle.platform_file.specs.declared.fault.Fault.TheVariants.{WrongType, Word}
+use Rattle.platform_file.specs.declared.fault.WalkFault.TheVariants.{WrongType, Word}
 use Rattle.platform_file.specs.declared.word.OperationWord.{OperationWord}
 use Rattle.platform_file.specs.declared.word.OperationWord.TheVariants as word
 use Rattle.platform_file.specs.Path.{key_text}
-use Rattle.platform_file.specs.Reading.{Reading, then_on, path_to, required, entry_of, number_within, number_at, text_at, word_at, and_no_other}
-use Rattle.platform_file.specs.Words.{kind_of, variable_of, operand_of, operation_of}
-use Rattle.platform_file.specs.Registers.{register_named}
+use Rattle.platform_file.specs.Reading.{Reading, read_then, path_to, required, entry_of, number_within, number_at, text_at, word_at, and_no_other}
+use Rattle.platform_file.specs.Words.{kind_of, variable_of, operand_of, operation_word}
 use Rattle.platform_file.specs.Head.{greatest}
 
 -- the keys of an operation that several have
-abbrev pub cpu_at : Place → Members → Reading ℕ
+abbrev pub cpu_at : TablePlace → Members → Reading ℕ
 cpu_at place table = number_at (path_to place key.Cpu) 0 65535 table
 
-abbrev pub register_at : Place → Members → Reading ℕ
-register_at place table = then_on (word_at (path_to place key.Reg) register_named table) (λ register. Ok (register_number register))
+abbrev pub register_at : TablePlace → Members → Reading ℕ
+register_at place table = read_then (word_at (path_to place key.Reg) register_named table) (λ register. Ok (register_number register))
 
-abbrev pub width_at : Place → Members → Reading ℕ
+abbrev pub width_at : TablePlace → Members → Reading ℕ
 width_at place table = number_at (path_to place key.Width) 0 24 table
 
-abbrev pub into_at : Place → Members → Reading ℕ
-into_at place table = then_on (word_at (path_to place key.Into) variable_of table) (λ variable. Ok variable.number)
+abbrev pub into_at : TablePlace → Members → Reading ℕ
+into_at place table = read_then (word_at (path_to place key.Into) variable_of table) (λ variable. Ok variable.number)
 
-abbrev pub kind_at : Place → Members → Reading HandlerType
+abbrev pub kind_at : TablePlace → Members → Reading HandlerType
 kind_at place table = word_at (path_to place key.Type) kind_of table
 
 -- an operand as an integer from 0
 abbrev pub operand_number : Path → ℤ → Reading Operand
-operand_number path number = then_on (number_within path 0 greatest number) (λ n. Ok (Number n))
+operand_number path number = read_then (number_within path 0 greatest number) (λ n. Ok (Number n))
 
 -- an operand as a text, if it is one
 abbrev pub operand_text : Path → Option (List ℕ) → Reading Operand
@@ -57,7 +56,7 @@ abbrev pub operand_value : Path → Data → Reading Operand
 operand_value path value = operand_by path (as_integer value) (as_str value)
 
 abbrev pub operand_at : Path → Members → Reading Operand
-operand_at path table = then_on (required path table) (operand_value path)
+operand_at path table = read_then (required path table) (operand_value path)
 
 -- has the entry of the list of handlers this name? Its other keys are of no matter
 abbrev pub text_is : List ℕ → Option (List ℕ) → Bool
@@ -71,72 +70,72 @@ has_name name entry = text_is name (option_and_then as_str (get (key_text key.Na
 abbrev pub handler_named : List Data → List ℕ → Option ℕ
 handler_named handlers name = position (has_name name) handlers
 
-abbrev pub handler_at : List Data → Place → Members → Reading ℕ
+abbrev pub handler_at : List Data → TablePlace → Members → Reading ℕ
 handler_at handlers place table = word_at (path_to place key.Handler) (handler_named handlers) table
 
 -- the keys of each operation, in their order
-abbrev pub set_in : Place → Members → Reading OpDef
+abbrev pub set_in : TablePlace → Members → Reading OpDef
 set_in place table =
-    then_on (into_at place table) (λ into.
-    then_on (operand_at (path_to place key.Value) table) (λ value. Ok (op.Set into value)))
+    read_then (into_at place table) (λ into.
+    read_then (operand_at (path_to place key.Value) table) (λ value. Ok (op.Set into value)))
 
-abbrev pub read_in : Place → Members → Reading OpDef
+abbrev pub read_in : TablePlace → Members → Reading OpDef
 read_in place table =
-    then_on (cpu_at place table) (λ cpu.
-    then_on (register_at place table) (λ reg.
-    then_on (width_at place table) (λ width.
-    then_on (into_at place table) (λ into. Ok (op.Read cpu reg width into)))))
+    read_then (cpu_at place table) (λ cpu.
+    read_then (register_at place table) (λ reg.
+    read_then (width_at place table) (λ width.
+    read_then (into_at place table) (λ into. Ok (op.Read cpu reg width into)))))
 
-abbrev pub write_in : Place → Members → Reading OpDef
+abbrev pub write_in : TablePlace → Members → Reading OpDef
 write_in place table =
-    then_on (cpu_at place table) (λ cpu.
-    then_on (register_at place table) (λ reg.
-    then_on (width_at place table) (λ width.
-    then_on (operand_at (path_to place key.Value) table) (λ value. Ok (op.Write cpu reg width value)))))
+    read_then (cpu_at place table) (λ cpu.
+    read_then (register_at place table) (λ reg.
+    read_then (width_at place table) (λ width.
+    read_then (operand_at (path_to place key.Value) table) (λ value. Ok (op.Write cpu reg width value)))))
 
-abbrev pub start_in : Place → Members → Reading OpDef
+abbrev pub start_in : TablePlace → Members → Reading OpDef
 start_in place table =
-    then_on (cpu_at place table) (λ cpu.
-    then_on (text_at (path_to place key.Procedure) table) (λ procedure.
-    then_on (operand_at (path_to place key.Arg) table) (λ arg.
-    then_on (into_at place table) (λ into. Ok (op.Start cpu procedure arg into)))))
+    read_then (cpu_at place table) (λ cpu.
+    read_then (text_at (path_to place key.Procedure) table) (λ procedure.
+    read_then (operand_at (path_to place key.Arg) table) (λ arg.
+    read_then (into_at place table) (λ into. Ok (op.Start cpu procedure arg into)))))
 
-abbrev pub launch_in : Place → Members → Reading OpDef
+abbrev pub launch_in : TablePlace → Members → Reading OpDef
 launch_in place table =
-    then_on (cpu_at place table) (λ cpu.
-    then_on (text_at (path_to place key.Procedure) table) (λ procedure.
-    then_on (operand_at (path_to place key.Arg) table) (λ arg.
-    then_on (into_at place table) (λ into. Ok (op.Launch cpu procedure arg into)))))
+    read_then (cpu_at place table) (λ cpu.
+    read_then (text_at (path_to place key.Procedure) table) (λ procedure.
+    read_then (operand_at (path_to place key.Arg) table) (λ arg.
+    read_then (into_at place table) (λ into. Ok (op.Launch cpu procedure arg into)))))
 
-abbrev pub check_in : Place → Members → Reading OpDef
-check_in place table = then_on (operand_at (path_to place key.Token) table) (λ token. Ok (op.Check token))
+abbrev pub check_in : TablePlace → Members → Reading OpDef
+check_in place table = read_then (operand_at (path_to place key.Token) table) (λ token. Ok (op.Check token))
 
-abbrev pub wait_in : Place → Members → Reading OpDef
+abbrev pub wait_in : TablePlace → Members → Reading OpDef
 wait_in place table =
-    then_on (operand_at (path_to place key.Token) table) (λ token.
-    then_on (into_at place table) (λ into. Ok (op.Wait token into)))
+    read_then (operand_at (path_to place key.Token) table) (λ token.
+    read_then (into_at place table) (λ into. Ok (op.Wait token into)))
 
-abbrev pub alloc_in : Place → Members → Reading OpDef
+abbrev pub alloc_in : TablePlace → Members → Reading OpDef
 alloc_in place table =
-    then_on (operand_at (path_to place key.Size) table) (λ size.
-    then_on (into_at place table) (λ into. Ok (op.Alloc size into)))
+    read_then (operand_at (path_to place key.Size) table) (λ size.
+    read_then (into_at place table) (λ into. Ok (op.Alloc size into)))
 
-abbrev pub free_in : Place → Members → Reading OpDef
-free_in place table = then_on (operand_at (path_to place key.Place) table) (λ at. Ok (op.Free at))
+abbrev pub free_in : TablePlace → Members → Reading OpDef
+free_in place table = read_then (operand_at (path_to place key.Place) table) (λ at. Ok (op.Free at))
 
-abbrev pub register_in : List Data → Place → Members → Reading OpDef
+abbrev pub register_in : List Data → TablePlace → Members → Reading OpDef
 register_in handlers place table =
-    then_on (handler_at handlers place table) (λ handler.
-    then_on (kind_at place table) (λ kind.
-    then_on (into_at place table) (λ into. Ok (op.Register handler kind into))))
+    read_then (handler_at handlers place table) (λ handler.
+    read_then (kind_at place table) (λ kind.
+    read_then (into_at place table) (λ into. Ok (op.Register handler kind into))))
 
-abbrev pub unregister_in : Place → Members → Reading OpDef
-unregister_in place table = then_on (operand_at (path_to place key.Handle) table) (λ handle. Ok (op.Unregister handle))
+abbrev pub unregister_in : TablePlace → Members → Reading OpDef
+unregister_in place table = read_then (operand_at (path_to place key.Handle) table) (λ handle. Ok (op.Unregister handle))
 
-abbrev pub manage_in : Place → Members → Reading OpDef
-manage_in place table = then_on (kind_at place table) (λ kind. Ok (op.Manage kind))
+abbrev pub manage_in : TablePlace → Members → Reading OpDef
+manage_in place table = read_then (kind_at place table) (λ kind. Ok (op.Manage kind))
 
-abbrev pub operation_by : List Data → Place → Members → OperationWord → Reading OpDef
+abbrev pub operation_by : List Data → TablePlace → Members → OperationWord → Reading OpDef
 operation_by handlers place table word.Set = set_in place table
 operation_by handlers place table word.Read = read_in place table
 operation_by handlers place table word.Write = write_in place table
@@ -165,14 +164,14 @@ operation_keys word.Unregister = key.Op ∷ key.Handle ∷ []
 operation_keys word.Manage = key.Op ∷ key.Type ∷ []
 
 -- an operation, whose `op` says which keys it has
-abbrev pub operation_as : List Data → Place → Members → OperationWord → Reading OpDef
+abbrev pub operation_as : List Data → TablePlace → Members → OperationWord → Reading OpDef
 operation_as handlers place table word =
-    then_on (operation_by handlers place table word) (λ operation. and_no_other place (operation_keys word) table operation)
+    read_then (operation_by handlers place table word) (λ operation. and_no_other place (operation_keys word) table operation)
 
-abbrev pub operation_in : List Data → Place → Members → Reading OpDef
-operation_in handlers place table = then_on (word_at (path_to place key.Op) operation_of table) (operation_as handlers place table)
+abbrev pub operation_in : List Data → TablePlace → Members → Reading OpDef
+operation_in handlers place table = read_then (word_at (path_to place key.Op) operation_word table) (operation_as handlers place table)
 
--- the operation of a handler behind the others
+-- the operation of a handler after the others
 abbrev pub operation_after : List Data → ℕ → List OpDef → Data → Reading OpDef
 operation_after handlers handler done value =
-    then_on (entry_of (place.Operation handler (length done)) value) (operation_in handlers (place.Operation handler (length done)))
+    read_then (entry_of (place.Operation handler (length done)) value) (operation_in handlers (place.Operation handler (length done)))

@@ -1,7 +1,7 @@
 -- The keys of a platform file, and how a fault names them.
 use Rattle.std.specs.Prelude.{ℕ, List, [], ◌∷◌, ◌++◌, codes, decimal}
-use Rattle.platform_file.specs.declared.path.Place.{Place}
-use Rattle.platform_file.specs.declared.path.Place.TheVariants as place
+use Rattle.platform_file.specs.declared.path.TablePlace.{TablePlace}
+use Rattle.platform_file.specs.declared.path.TablePlace.TheVariants as place
 use Rattle.platform_file.specs.declared.path.Path.{Path}
 use Rattle.platform_file.specs.declared.path.Key.{Key}
 use Rattle.platform_file.specs.declared.path.Key.TheVariants as key
@@ -54,7 +54,7 @@ abbrev pub entry_text : List ℕ → ℕ → List ℕ
 entry_text name at = name ++ codes "[" ++ decimal at ++ codes "]"
 
 -- a table; the top one has no name
-abbrev pub place_text : Place → List ℕ
+abbrev pub place_text : TablePlace → List ℕ
 place_text place.Top = []
 place_text place.Smram = codes "smram"
 place_text (place.Wave i) = entry_text (codes "wave") i
@@ -64,13 +64,13 @@ place_text (place.Procedure i) = entry_text (codes "procedure") i
 place_text (place.Cause i) = entry_text (codes "cause") i
 place_text (place.Io i) = entry_text (codes "cause") i ++ codes ".io"
 
--- a name in a table: behind the table's and a dot
-abbrev pub name_behind : List ℕ → List ℕ → List ℕ
-name_behind [] name = name
-name_behind (c ∷ cs) name = (c ∷ cs) ++ codes "." ++ name
+-- a name in a table: after the table's and a dot
+abbrev pub dotted : List ℕ → List ℕ → List ℕ
+dotted [] name = name
+dotted (c ∷ cs) name = (c ∷ cs) ++ codes "." ++ name
 
-abbrev pub name_under : Place → List ℕ → List ℕ
-name_under at name = name_behind (place_text at) name
+abbrev pub name_under : TablePlace → List ℕ → List ℕ
+name_under at name = dotted (place_text at) name
 
 -- the path of a key in a fault
 abbrev pub path_text : Path → List ℕ

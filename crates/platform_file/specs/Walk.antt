@@ -4,37 +4,42 @@ use Rattle.std.specs.Str.{is_utf8}
 use Rattle.toml.specs.Data.{Members}
 use Rattle.toml.specs.Parse.{parse_document}
 use Rattle.cpu_table.specs.Ranges.{events_at_most}
+use Rattle.cpu_table.specs.declared.setup.Smram.{Smram}
 use Rattle.cpu_table.specs.Data.{SetupData}
-use Rattle.platform_file.specs.declared.fault.Fault.{Fault}
-use Rattle.platform_file.specs.declared.fault.Fault.TheVariants as fault
+use Rattle.platform_file.specs.declared.fault.WalkFault.{WalkFault}
+use Rattle.platform_file.specs.declared.fault.WalkFault.TheVariants as fault
 use Rattle.platform_file.specs.declared.error.PlatformError.{PlatformError}
 use Rattle.platform_file.specs.declared.error.PlatformError.TheVariants as error
 use Rattle.platform_file.specs.declared.head.Head.{Head}
 use Rattle.platform_file.specs.Path.{path_text, place_text, name_under}
-use Rattle.platform_file.specs.Reading.{Reading, then_on}
+use Rattle.platform_file.specs.Reading.{Reading, read_then}
 use Rattle.platform_file.specs.Head.{head_at}
-use Rattle.platform_file.specs.Area.{area_at}
+use Rattle.platform_file.specs.Area.{area_at, layout_judged}
 use Rattle.platform_file.specs.Waves.{waves_at}
 use Rattle.platform_file.specs.Handlers.{handlers_at, procedures_at}
 use Rattle.platform_file.specs.Causes.{causes_at}
 
 -- the most events that a schedule makes on the platform
-abbrev pub most_events : SetupData → ℕ
-most_events d = events_at_most d.processors d.t1 d.t2 d.visits d.ops
+abbrev pub most_events : Head → ℕ
+most_events head = events_at_most head.processors head.polls.t1 head.polls.t2 head.visits head.ops
 
--- after all tables: the platform makes at most 4,194,304 events
-abbrev pub within_limit : SetupData → Reading SetupData
-within_limit d = if nat_le (most_events d) 4194304 then Ok d else Err (fault.TooLarge (most_events d))
+-- at most 4,194,304 events
+abbrev pub within_limit : ℕ → Reading (Unit {0})
+within_limit events = if nat_le events 4194304 then Ok tt else Err (fault.TooLarge events)
 
--- the tables behind the top one: the areas, the waves, the handlers, the procedures, the causes
+-- after all tables the limit on events, and last the layout of the processors' areas, where the file has SMRAM
+abbrev pub limits_judged : Head → Option Smram → Reading (Unit {0})
+limits_judged head smram = read_then (within_limit (most_events head)) (λ _. layout_judged head.processors smram)
+
+-- the tables after the top one: the areas, the waves, the handlers, the procedures, the causes
 abbrev pub tables_at : Members → Head → Reading SetupData
 tables_at table head =
-    then_on (area_at table) (λ smram.
-    then_on (waves_at head.processors head.visits table) (λ waves.
-    then_on (handlers_at table) (λ handlers.
-    then_on (procedures_at table) (λ procedures.
-    then_on (causes_at head.processors head.visits table) (λ causes.
-    within_limit (record {
+    read_then (area_at table) (λ smram.
+    read_then (waves_at head.processors head.visits table) (λ waves.
+    read_then (handlers_at table) (λ handlers.
+    read_then (procedures_at table) (λ procedures.
+    read_then (causes_at head.processors head.visits table) (λ causes.
+    read_then (limits_judged head smram) (λ _. Ok (record {
       processors = head.processors;
       kind = head.kind;
       policy = head.policy;
@@ -49,14 +54,14 @@ tables_at table head =
       handlers = handlers;
       procedures = procedures;
       causes = causes;
-    }))))))
+    })))))))
 
 -- the whole walk: the top table is finished first
 abbrev pub setup_at : Members → Reading SetupData
-setup_at table = then_on (head_at table) (tables_at table)
+setup_at table = read_then (head_at table) (tables_at table)
 
 -- the fault as it is answered, with its key as a path
-abbrev pub error_of : Fault → PlatformError
+abbrev pub error_of : WalkFault → PlatformError
 error_of (fault.Missing path) = error.Missing (path_text path)
 error_of (fault.WrongType path) = error.WrongType (path_text path)
 error_of (fault.NoTable place) = error.WrongType (place_text place)
@@ -64,6 +69,7 @@ error_of (fault.Word path) = error.Word (path_text path)
 error_of (fault.Range path number) = error.Range (path_text path) number
 error_of (fault.Unknown place name) = error.Unknown (name_under place name)
 error_of (fault.TooLarge events) = error.TooLarge events
+error_of (fault.Layout refusal) = error.Layout refusal
 error_of fault.NoMemory = error.NoMemory
 
 abbrev pub told : {A : Type 0} → Reading A → Result A PlatformError
@@ -79,5 +85,5 @@ platform_in None = Err error.NotToml
 platform_in (Some table) = told (setup_at table)
 
 -- the platform that a file stands for, or why it stands for none
-unfoldable pub platform_of : List ℕ → Result SetupData PlatformError
-platform_of bytes = platform_in (document_of bytes)
+unfoldable pub setup_read : List ℕ → Result SetupData PlatformError
+setup_read bytes = platform_in (document_of bytes)

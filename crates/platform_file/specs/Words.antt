@@ -80,8 +80,8 @@ act_of word =
     else if bytes_eq word (codes "put") then Some Put
     else None
 
-abbrev pub operation_of : List ℕ → Option OperationWord
-operation_of word =
+abbrev pub operation_word : List ℕ → Option OperationWord
+operation_word word =
     if bytes_eq word (codes "set") then Some op.Set
     else if bytes_eq word (codes "read") then Some op.Read
     else if bytes_eq word (codes "write") then Some op.Write

@@ -3,9 +3,9 @@ ghost use Rattle.platform_file.specs.Path.{entry_text, place_text, name_under, p
 ghost use Rattle.platform_file.specs.Walk.{error_of};
 ghost use Rattle.platform_file.specs.declared.error.PlatformError.TheVariants.{NoMemory as no_memory};
 
-use crate::fault::Fault;
-use crate::path::{Path, Place};
-use cpu_table::Text;
+use crate::fault::WalkFault;
+use crate::path::{Path, TablePlace};
+use cpu_table::{LayoutError, Text};
 use smm_base::NoMemory;
 use std::alloc::Global;
 use std::fmt;
@@ -29,11 +29,19 @@ pub enum PlatformError {
     Unknown(Text),
     /// A schedule could make this many events, which is more than 4,194,304.
     TooLarge(u64),
+    /// SMRAM has no room for the processors' areas.
+    Layout(LayoutError),
     NoMemory,
 }
 
-/// The words that a fault line tells: `missing KEY`, `range KEY NUMBER` and so on.
+/// The words that a fault line tells: `not-toml`, `missing KEY`, `type KEY`, `word KEY`, `range KEY NUMBER`,
+/// `unknown KEY`, `too-large EVENTS`, those of the layout's error, or `no memory`.
 impl fmt::Display for PlatformError {
+    ghost use Rattle.std.specs.Prelude.{Some};
+    ghost use Rattle.platform_file.specs.Texts.{platform_error_text};
+
+    ghost output = { λ error. Some (platform_error_text error) };
+
     fn fmt<W: fmt::Write>(&self, f: &mut fmt::Formatter<W>) -> fmt::Result {
         match self {
             PlatformError::NotToml => f.write_str("not-toml"),
@@ -43,7 +51,8 @@ impl fmt::Display for PlatformError {
             PlatformError::Range(key, number) => write!(f, "range {} {number}", key.as_str()),
             PlatformError::Unknown(key) => write!(f, "unknown {}", key.as_str()),
             PlatformError::TooLarge(events) => write!(f, "too-large {events}"),
-            PlatformError::NoMemory => f.write_str("memory"),
+            PlatformError::Layout(error) => write!(f, "{error}"),
+            PlatformError::NoMemory => f.write_str("no memory"),
         }
     }
 }
@@ -58,24 +67,24 @@ impl From<NoMemory> for PlatformError {
     }
 }
 
-// A table by its key, and an entry by its place in brackets behind.
-fn place_text(alloc: Global, place: Place) -> Result<String, NoMemory>
+// A table by its key, and an entry by its place in brackets after.
+fn place_text(alloc: Global, place: TablePlace) -> Result<String, NoMemory>
     ensures { IfOk result (λ text. string_bytes text ≡ place_text place) }
 {
     Ok(match place {
-        Place::Top => String::new(alloc),
-        Place::Smram => String::from_str(alloc, "smram")?,
-        Place::Wave(at) => format!(in alloc; "wave[{at}]")?,
-        Place::Handler(at) => format!(in alloc; "handler[{at}]")?,
-        Place::Operation(handler, at) => format!(in alloc; "handler[{handler}].ops[{at}]")?,
-        Place::Procedure(at) => format!(in alloc; "procedure[{at}]")?,
-        Place::Cause(at) => format!(in alloc; "cause[{at}]")?,
-        Place::Io(at) => format!(in alloc; "cause[{at}].io")?,
+        TablePlace::Top => String::new(alloc),
+        TablePlace::Smram => String::from_str(alloc, "smram")?,
+        TablePlace::Wave(at) => format!(in alloc; "wave[{at}]")?,
+        TablePlace::Handler(at) => format!(in alloc; "handler[{at}]")?,
+        TablePlace::Operation(handler, at) => format!(in alloc; "handler[{handler}].ops[{at}]")?,
+        TablePlace::Procedure(at) => format!(in alloc; "procedure[{at}]")?,
+        TablePlace::Cause(at) => format!(in alloc; "cause[{at}]")?,
+        TablePlace::Io(at) => format!(in alloc; "cause[{at}].io")?,
     })
 }
 
 // A name in a table.
-fn name_under(alloc: Global, place: Place, name: &str) -> Result<Text, NoMemory>
+fn name_under(alloc: Global, place: TablePlace, name: &str) -> Result<Text, NoMemory>
     ensures { IfOk result (λ text. text ≡ name_under place name.now) }
 {
     let mut text = place_text(alloc, place)?;
@@ -94,25 +103,26 @@ fn path_text(alloc: Global, path: Path) -> Result<Text, NoMemory>
 }
 
 // The error of a fault, with its key as a path.
-fn explain(alloc: Global, fault: Fault) -> Result<PlatformError, NoMemory>
+fn explain(alloc: Global, fault: WalkFault) -> Result<PlatformError, NoMemory>
     ensures { IfOk result (λ error. error ≡ error_of fault) }
 {
     Ok(match fault {
-        Fault::Missing(path) => PlatformError::Missing(path_text(alloc, path)?),
-        Fault::WrongType(path) => PlatformError::WrongType(path_text(alloc, path)?),
-        Fault::NoTable(place) => PlatformError::WrongType(Text::new(place_text(alloc, place)?)),
-        Fault::Word(path) => PlatformError::Word(path_text(alloc, path)?),
-        Fault::Range(path, number) => PlatformError::Range(path_text(alloc, path)?, number),
-        Fault::Unknown(place, name) => {
+        WalkFault::Missing(path) => PlatformError::Missing(path_text(alloc, path)?),
+        WalkFault::WrongType(path) => PlatformError::WrongType(path_text(alloc, path)?),
+        WalkFault::NoTable(place) => PlatformError::WrongType(Text::new(place_text(alloc, place)?)),
+        WalkFault::Word(path) => PlatformError::Word(path_text(alloc, path)?),
+        WalkFault::Range(path, number) => PlatformError::Range(path_text(alloc, path)?, number),
+        WalkFault::Unknown(place, name) => {
             PlatformError::Unknown(name_under(alloc, place, name.as_str())?)
         }
-        Fault::TooLarge(events) => PlatformError::TooLarge(events),
-        Fault::NoMemory => PlatformError::NoMemory,
+        WalkFault::TooLarge(events) => PlatformError::TooLarge(events),
+        WalkFault::Layout(error) => PlatformError::Layout(error),
+        WalkFault::NoMemory => PlatformError::NoMemory,
     })
 }
 
 /// The error of a fault, or want of memory for its text.
-pub fn error_of(alloc: Global, fault: Fault) -> PlatformError
+pub fn error_of(alloc: Global, fault: WalkFault) -> PlatformError
     ensures { (result ≡ no_memory) ⊎ (result ≡ error_of fault) }
 {
     match explain(alloc, fault) {

@@ -5,30 +5,20 @@ ghost use Rattle.cpu_table.specs.Distinct.{are_distinct};
 ghost use Rattle.cpu_table.specs.Ranges.{is_name, same_text, is_answer, op_fits, handler_fits, handlers_fit};
 ghost use Rattle.platform_file.specs.Reading.{StopsAt, each, path_to, word_at};
 ghost use Rattle.platform_file.specs.Words.{answer_of};
-ghost use Rattle.platform_file.specs.declared.path.Place.TheVariants as place;
+ghost use Rattle.platform_file.specs.declared.path.TablePlace.TheVariants as place;
 ghost use Rattle.platform_file.specs.Handlers.{name_unless, name_at, has_handler, operations_at, handler_in, handler_after, handlers_in, handlers_at};
 
 use crate::document::{entry_of, list_at, refuse_others, text_at, word_at};
-use crate::fault::Fault;
+use crate::fault::WalkFault;
 use crate::head::handler_entries;
 use crate::operations::operations_of;
-use crate::path::{Key, Path, Place};
+use crate::path::{Key, Path, TablePlace, path_to};
 use cpu_table::{HandlerDef, Items, OpDef, Text};
 use smm_base::Status;
 use std::alloc::Global;
 use toml::{Table, Value};
 
 const KEYS: [Key; 4] = [Key::Name, Key::Type, Key::Answer, Key::Ops];
-
-// A key of the handler at this place.
-fn key(at: usize, key: Key) -> Path
-    ensures { result ≡ path_to (place.Handler at) key }
-{
-    Path {
-        place: Place::Handler(at),
-        key,
-    }
-}
 
 /// Is the text a name of 1 to 32 bytes?
 pub fn is_name(name: &Text) -> bool
@@ -39,13 +29,13 @@ pub fn is_name(name: &Text) -> bool
 }
 
 /// A name that is too short or too long, or taken, is refused.
-pub fn name_after(name: Text, is_taken: bool, path: Path) -> Result<Text, Fault>
+pub fn name_after(name: Text, is_taken: bool, path: Path) -> Result<Text, WalkFault>
     ensures { result ≡ name_unless is_taken path name }
 {
     if is_name(&name) && !is_taken {
         Ok(name)
     } else {
-        Err(Fault::Word(path))
+        Err(WalkFault::Word(path))
     }
 }
 
@@ -58,7 +48,7 @@ fn is_taken(done: &[HandlerDef], name: &Text) -> bool
 }
 
 // The name of the next handler.
-fn name_at(alloc: Global, table: &Table, done: &[HandlerDef], path: Path) -> Result<Text, Fault>
+fn name_at(alloc: Global, table: &Table, done: &[HandlerDef], path: Path) -> Result<Text, WalkFault>
     ensures name { IfOk result (λ name. name_at (has_handler done.now) path (table_view table.now) ≡ Ok name) }
     ensures fits { IfOk result (λ name. IsTrue (is_name name)) }
     ensures fresh { IfOk result (λ name. IsFalse (has_handler done.now name)) }
@@ -70,7 +60,7 @@ fn name_at(alloc: Global, table: &Table, done: &[HandlerDef], path: Path) -> Res
 }
 
 // The status that a handler answers with.
-fn answer_at(table: &Table, path: Path) -> Result<Status, Fault>
+fn answer_at(table: &Table, path: Path) -> Result<Status, WalkFault>
     ensures answer { result ≡ word_at path answer_of (table_view table.now) }
     ensures fits { IfOk result (λ answer. IsTrue (is_answer answer)) }
 {
@@ -83,14 +73,14 @@ fn operations_at(
     table: &Table,
     at: usize,
     handlers: &[Value],
-) -> Result<Items<OpDef>, Fault>
+) -> Result<Items<OpDef>, WalkFault>
     requires { length handlers.now ≤ 64 }
     ensures operations { IfOk result (λ operations. operations_at (map view handlers.now) at (table_view table.now) ≡ Ok operations) }
     ensures few { IfOk result (λ operations. length operations ≤ 64) }
     ensures fit { IfOk result (λ operations. IsTrue (list_all (op_fits (length handlers.now)) operations)) }
     ensures refused { IfErr result (StopsAt (operations_at (map view handlers.now) at (table_view table.now))) }
 {
-    let values = list_at(table, key(at, Key::Ops), 0, 64)?;
+    let values = list_at(table, path_to(TablePlace::Handler(at), Key::Ops), 0, 64)?;
     let operations = operations_of(alloc, values, at, handlers)?;
     Ok(Items::new(operations))
 }
@@ -101,7 +91,7 @@ fn handler_in(
     table: &Table,
     done: &[HandlerDef],
     handlers: &[Value],
-) -> Result<HandlerDef, Fault>
+) -> Result<HandlerDef, WalkFault>
     requires { length handlers.now ≤ 64 }
     ensures handler { IfOk result (λ handler. handler_in (map view handlers.now) done.now (length done.now) (table_view table.now) ≡ Ok handler) }
     ensures fits { IfOk result (λ handler. IsTrue (handler_fits (length handlers.now) handler)) }
@@ -109,11 +99,16 @@ fn handler_in(
     ensures refused { IfErr result (StopsAt (handler_in (map view handlers.now) done.now (length done.now) (table_view table.now))) }
 {
     let at = done.len();
-    let name = name_at(alloc, table, done, key(at, Key::Name))?;
-    let kind = word_at(table, key(at, Key::Type))?;
-    let answer = answer_at(table, key(at, Key::Answer))?;
+    let name = name_at(
+        alloc,
+        table,
+        done,
+        path_to(TablePlace::Handler(at), Key::Name),
+    )?;
+    let kind = word_at(table, path_to(TablePlace::Handler(at), Key::Type))?;
+    let answer = answer_at(table, path_to(TablePlace::Handler(at), Key::Answer))?;
     let ops = operations_at(alloc, table, at, handlers)?;
-    refuse_others(alloc, table, Place::Handler(at), &KEYS)?;
+    refuse_others(alloc, table, TablePlace::Handler(at), &KEYS)?;
     Ok(HandlerDef {
         name,
         kind,
@@ -128,19 +123,19 @@ fn handler_after(
     value: &Value,
     done: &[HandlerDef],
     handlers: &[Value],
-) -> Result<HandlerDef, Fault>
+) -> Result<HandlerDef, WalkFault>
     requires { length handlers.now ≤ 64 }
     ensures handler { IfOk result (λ handler. handler_after (map view handlers.now) done.now (view value.now) ≡ Ok handler) }
     ensures fits { IfOk result (λ handler. IsTrue (handler_fits (length handlers.now) handler)) }
     ensures fresh { IfOk result (λ handler. IsFalse (has_handler done.now handler.name)) }
     ensures refused { IfErr result (StopsAt (handler_after (map view handlers.now) done.now (view value.now))) }
 {
-    let table = entry_of(value, Place::Handler(done.len()))?;
+    let table = entry_of(value, TablePlace::Handler(done.len()))?;
     handler_in(alloc, table, done, handlers)
 }
 
 // The handlers of the entries.
-fn handlers_of(alloc: Global, handlers: &[Value]) -> Result<Vec<HandlerDef>, Fault>
+fn handlers_of(alloc: Global, handlers: &[Value]) -> Result<Vec<HandlerDef>, WalkFault>
     requires { length handlers.now ≤ 64 }
     ensures handlers { IfOk result (λ defs. handlers_in (map view handlers.now) ≡ Ok defs.items) }
     ensures fit { IfOk result (λ defs. IsTrue (handlers_fit defs.items)) }
@@ -155,7 +150,7 @@ fn handlers_of(alloc: Global, handlers: &[Value]) -> Result<Vec<HandlerDef>, Fau
 }
 
 /// The handlers of a file.
-pub fn handlers_at(alloc: Global, table: &Table) -> Result<Items<HandlerDef>, Fault>
+pub fn handlers_at(alloc: Global, table: &Table) -> Result<Items<HandlerDef>, WalkFault>
     ensures handlers { IfOk result (λ handlers. handlers_at (table_view table.now) ≡ Ok handlers) }
     ensures fit { IfOk result (λ handlers. IsTrue (handlers_fit handlers)) }
     ensures refused { IfErr result (StopsAt (handlers_at (table_view table.now))) }

@@ -1,5 +1,5 @@
-// The files that describe a platform, and the schedules that run on it: a TOML document is read as
-// a platform's setup, or refused at its first fault, and a schedule's text as its actors.
+// The files that describe a platform: a TOML document is read as a platform's setup, or refused at its
+// first fault. Schedules are read by `schedule_file`, whose names stand here too.
 #![tactic(auto)]
 
 mod area;
@@ -15,18 +15,10 @@ mod path;
 mod platform;
 mod procedures;
 mod register;
-mod schedule;
-mod schedule_actors;
-mod schedule_error;
-mod schedule_item;
 mod waves;
 mod word;
 
+pub use cpu_table::LayoutError;
 pub use error::PlatformError;
 pub use platform::read_platform;
-pub use schedule::{ScheduleError, read_schedule};
-
-#[cfg(test)]
-mod platform_tests;
-#[cfg(test)]
-mod schedule_tests;
+pub use schedule_file::{ScheduleError, read_schedule};

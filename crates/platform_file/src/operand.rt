@@ -2,12 +2,12 @@ ghost use Rattle.std.specs.Prelude.{◌≡◌, ◌<◌, IfOk, IfSome, IsTrue};
 ghost use Rattle.std.specs.Char.{is_digit};
 ghost use Rattle.std.specs.List.{list_all};
 ghost use Rattle.toml.specs.View.{view, table_view};
-ghost use Rattle.cpu_table.specs.Ranges.{is_operand, is_variable, is_register_number};
+ghost use Rattle.cpu_table.specs.Ranges.{is_operand, is_variable};
 ghost use Rattle.platform_file.specs.Words.{variable_of, are_digits, number_of_digits, hexadecimal_of, operand_of};
 ghost use Rattle.platform_file.specs.Operations.{operand_number, operand_text, operand_value, operand_at};
 
 use crate::document::{member, number_within};
-use crate::fault::Fault;
+use crate::fault::WalkFault;
 use crate::head::GREATEST;
 use crate::path::Path;
 use crate::word::Word;
@@ -15,7 +15,7 @@ use cpu_table::Operand;
 use toml::{Table, Value};
 
 /// One of the eight variables of a session.
-#[derive(Clone, Copy, Debug, PartialEq, Eq)]
+#[derive(Clone, Copy)]
 pub struct Variable {
     /// 0 to 7.
     pub number: u8,
@@ -101,7 +101,7 @@ fn operand_of(text: &str) -> Option<Operand>
 }
 
 // An operand as an integer from 0.
-fn operand_number(number: i64, path: Path) -> Result<Operand, Fault>
+fn operand_number(number: i64, path: Path) -> Result<Operand, WalkFault>
     ensures operand { result ≡ operand_number path number }
     ensures fits { IfOk result (λ operand. IsTrue (is_operand operand)) }
 {
@@ -110,18 +110,18 @@ fn operand_number(number: i64, path: Path) -> Result<Operand, Fault>
 }
 
 // An operand as a text.
-fn operand_text(text: &str, path: Path) -> Result<Operand, Fault>
+fn operand_text(text: &str, path: Path) -> Result<Operand, WalkFault>
     ensures operand { result ≡ operand_text path (Some text.now) }
     ensures fits { IfOk result (λ operand. IsTrue (is_operand operand)) }
 {
     match operand_of(text) {
         Some(operand) => Ok(operand),
-        None => Err(Fault::Word(path)),
+        None => Err(WalkFault::Word(path)),
     }
 }
 
 // The operand of a value.
-fn operand_value(value: &Value, path: Path) -> Result<Operand, Fault>
+fn operand_value(value: &Value, path: Path) -> Result<Operand, WalkFault>
     ensures operand { result ≡ operand_value path (view value.now) }
     ensures fits { IfOk result (λ operand. IsTrue (is_operand operand)) }
 {
@@ -130,17 +130,17 @@ fn operand_value(value: &Value, path: Path) -> Result<Operand, Fault>
     }
     match value.as_str() {
         Some(text) => operand_text(text, path),
-        None => Err(Fault::WrongType(path)),
+        None => Err(WalkFault::WrongType(path)),
     }
 }
 
 /// The operand at a key.
-pub fn operand_at(table: &Table, path: Path) -> Result<Operand, Fault>
+pub fn operand_at(table: &Table, path: Path) -> Result<Operand, WalkFault>
     ensures operand { result ≡ operand_at path (table_view table.now) }
     ensures fits { IfOk result (λ operand. IsTrue (is_operand operand)) }
 {
     match member(table, path) {
         Some(value) => operand_value(value, path),
-        None => Err(Fault::Missing(path)),
+        None => Err(WalkFault::Missing(path)),
     }
 }

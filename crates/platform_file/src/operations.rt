@@ -1,63 +1,58 @@
 ghost use Rattle.std.specs.Prelude.{◌≡◌, ◌≤◌, ◌<◌, [], IfOk, IfErr, IfSome, Ok, IsTrue, map, length};
 ghost use Rattle.std.specs.List.{list_all, position};
 ghost use Rattle.toml.specs.View.{view, table_view};
-ghost use Rattle.cpu_table.specs.Ranges.{is_variable, is_register_number, op_fits};
+ghost use Rattle.smm_base.specs.Register.{is_register_number};
+ghost use Rattle.cpu_table.specs.Ranges.{is_variable, op_fits};
 ghost use Rattle.platform_file.specs.Reading.{StopsAt, each, path_to};
 ghost use Rattle.platform_file.specs.Operations.{cpu_at, register_at, width_at, into_at, kind_at, handler_named, handler_at, has_name, set_in, read_in, write_in, start_in, launch_in, check_in, wait_in, alloc_in, free_in, register_in, unregister_in, manage_in, operation_by, operation_keys, operation_as, operation_in, operation_after};
 
 use crate::document::{entry_of, member, number_at, refuse_others, text_at, word_at};
-use crate::fault::Fault;
+use crate::fault::WalkFault;
 use crate::operand::{Variable, operand_at};
-use crate::path::{Key, Path, Place};
+use crate::path::{Key, TablePlace, path_to};
 use crate::word::OperationWord;
 use cpu_table::{OpDef, Text};
-use smm_base::{HandlerType, Register};
+use smm_base::{HandlerType, Register, register_laws};
 use std::alloc::Global;
 use toml::{Table, Value};
 
-// A key of an operation.
-fn key(place: Place, key: Key) -> Path
-    ensures { result ≡ path_to place key }
-{
-    Path { place, key }
-}
-
-fn cpu_at(table: &Table, place: Place) -> Result<u16, Fault>
+fn cpu_at(table: &Table, place: TablePlace) -> Result<u16, WalkFault>
     ensures { result ≡ cpu_at place (table_view table.now) }
 {
-    let number = number_at(table, key(place, Key::Cpu), 0, 65535)?;
+    let number = number_at(table, path_to(place, Key::Cpu), 0, 65535)?;
     Ok(number as u16)
 }
 
 /// The number of a register that a key `reg` names.
-pub fn register_at(table: &Table, place: Place) -> Result<u32, Fault>
+pub fn register_at(table: &Table, place: TablePlace) -> Result<u32, WalkFault>
     ensures register { result ≡ register_at place (table_view table.now) }
     ensures fits { IfOk result (λ number. IsTrue (is_register_number number)) }
 {
-    let register: Register = word_at(table, key(place, Key::Reg))?;
+    let register: Register = word_at(table, path_to(place, Key::Reg))?;
+    register_laws();
     Ok(register.number())
 }
 
-fn width_at(table: &Table, place: Place) -> Result<u8, Fault>
+fn width_at(table: &Table, place: TablePlace) -> Result<u8, WalkFault>
     ensures width { result ≡ width_at place (table_view table.now) }
     ensures fits { IfOk result (λ width. width ≤ 24) }
 {
-    let width = number_at(table, key(place, Key::Width), 0, 24)?;
+    let width = number_at(table, path_to(place, Key::Width), 0, 24)?;
     Ok(width as u8)
 }
 
-fn into_at(table: &Table, place: Place) -> Result<u8, Fault>
+fn into_at(table: &Table, place: TablePlace) -> Result<u8, WalkFault>
     ensures into { result ≡ into_at place (table_view table.now) }
     ensures fits { IfOk result (λ into. IsTrue (is_variable into)) }
 {
-    let variable: Variable = word_at(table, key(place, Key::Into))?;
+    let variable: Variable = word_at(table, path_to(place, Key::Into))?;
     Ok(variable.number)
 }
 
-fn kind_at(table: &Table, place: Place) -> Result<HandlerType, Fault>
+fn kind_at(table: &Table, place: TablePlace) -> Result<HandlerType, WalkFault>
     ensures { result ≡ kind_at place (table_view table.now) }
 {
-    word_at(table, key(place, Key::Type))
+    word_at(table, path_to(place, Key::Type))
 }
 
 // Has the entry of the list of handlers this name?
@@ -87,34 +82,34 @@ fn handler_named(handlers: &[Value], name: &str) -> Option<usize>
 }
 
 // The place of the handler that a key `handler` names.
-fn handler_at(table: &Table, place: Place, handlers: &[Value]) -> Result<u16, Fault>
+fn handler_at(table: &Table, place: TablePlace, handlers: &[Value]) -> Result<u16, WalkFault>
     requires { length handlers.now ≤ 64 }
     ensures handler { result ≡ handler_at (map view handlers.now) place (table_view table.now) }
     ensures within { IfOk result (λ handler. handler < length handlers.now) }
 {
-    let path = key(place, Key::Handler);
+    let path = path_to(place, Key::Handler);
     match member(table, path) {
         Some(value) => match value.as_str() {
             Some(name) => match handler_named(handlers, name) {
                 Some(handler) => Ok(handler as u16),
-                None => Err(Fault::Word(path)),
+                None => Err(WalkFault::Word(path)),
             },
-            None => Err(Fault::WrongType(path)),
+            None => Err(WalkFault::WrongType(path)),
         },
-        None => Err(Fault::Missing(path)),
+        None => Err(WalkFault::Missing(path)),
     }
 }
 
-fn set_in(table: &Table, place: Place) -> Result<OpDef, Fault>
+fn set_in(table: &Table, place: TablePlace) -> Result<OpDef, WalkFault>
     ensures operation { result ≡ set_in place (table_view table.now) }
     ensures fits { IfOk result (λ operation. IsTrue (op_fits 0 operation)) }
 {
     let into = into_at(table, place)?;
-    let value = operand_at(table, key(place, Key::Value))?;
+    let value = operand_at(table, path_to(place, Key::Value))?;
     Ok(OpDef::Set { into, value })
 }
 
-fn read_in(table: &Table, place: Place) -> Result<OpDef, Fault>
+fn read_in(table: &Table, place: TablePlace) -> Result<OpDef, WalkFault>
     ensures operation { result ≡ read_in place (table_view table.now) }
     ensures fits { IfOk result (λ operation. IsTrue (op_fits 0 operation)) }
 {
@@ -130,14 +125,14 @@ fn read_in(table: &Table, place: Place) -> Result<OpDef, Fault>
     })
 }
 
-fn write_in(table: &Table, place: Place) -> Result<OpDef, Fault>
+fn write_in(table: &Table, place: TablePlace) -> Result<OpDef, WalkFault>
     ensures operation { result ≡ write_in place (table_view table.now) }
     ensures fits { IfOk result (λ operation. IsTrue (op_fits 0 operation)) }
 {
     let cpu = cpu_at(table, place)?;
     let reg = register_at(table, place)?;
     let width = width_at(table, place)?;
-    let value = operand_at(table, key(place, Key::Value))?;
+    let value = operand_at(table, path_to(place, Key::Value))?;
     Ok(OpDef::Write {
         cpu,
         reg,
@@ -146,14 +141,14 @@ fn write_in(table: &Table, place: Place) -> Result<OpDef, Fault>
     })
 }
 
-fn start_in(alloc: Global, table: &Table, place: Place) -> Result<OpDef, Fault>
+fn start_in(alloc: Global, table: &Table, place: TablePlace) -> Result<OpDef, WalkFault>
     ensures operation { IfOk result (λ operation. start_in place (table_view table.now) ≡ Ok operation) }
     ensures fits { IfOk result (λ operation. IsTrue (op_fits 0 operation)) }
     ensures refused { IfErr result (StopsAt (start_in place (table_view table.now))) }
 {
     let cpu = cpu_at(table, place)?;
-    let procedure = text_at(alloc, table, key(place, Key::Procedure))?;
-    let arg = operand_at(table, key(place, Key::Arg))?;
+    let procedure = text_at(alloc, table, path_to(place, Key::Procedure))?;
+    let arg = operand_at(table, path_to(place, Key::Arg))?;
     let into = into_at(table, place)?;
     Ok(OpDef::Start {
         cpu,
@@ -163,14 +158,14 @@ fn start_in(alloc: Global, table: &Table, place: Place) -> Result<OpDef, Fault>
     })
 }
 
-fn launch_in(alloc: Global, table: &Table, place: Place) -> Result<OpDef, Fault>
+fn launch_in(alloc: Global, table: &Table, place: TablePlace) -> Result<OpDef, WalkFault>
     ensures operation { IfOk result (λ operation. launch_in place (table_view table.now) ≡ Ok operation) }
     ensures fits { IfOk result (λ operation. IsTrue (op_fits 0 operation)) }
     ensures refused { IfErr result (StopsAt (launch_in place (table_view table.now))) }
 {
     let cpu = cpu_at(table, place)?;
-    let procedure = text_at(alloc, table, key(place, Key::Procedure))?;
-    let arg = operand_at(table, key(place, Key::Arg))?;
+    let procedure = text_at(alloc, table, path_to(place, Key::Procedure))?;
+    let arg = operand_at(table, path_to(place, Key::Arg))?;
     let into = into_at(table, place)?;
     Ok(OpDef::Launch {
         cpu,
@@ -180,41 +175,41 @@ fn launch_in(alloc: Global, table: &Table, place: Place) -> Result<OpDef, Fault>
     })
 }
 
-fn check_in(table: &Table, place: Place) -> Result<OpDef, Fault>
+fn check_in(table: &Table, place: TablePlace) -> Result<OpDef, WalkFault>
     ensures operation { result ≡ check_in place (table_view table.now) }
     ensures fits { IfOk result (λ operation. IsTrue (op_fits 0 operation)) }
 {
-    let token = operand_at(table, key(place, Key::Token))?;
+    let token = operand_at(table, path_to(place, Key::Token))?;
     Ok(OpDef::Check { token })
 }
 
-fn wait_in(table: &Table, place: Place) -> Result<OpDef, Fault>
+fn wait_in(table: &Table, place: TablePlace) -> Result<OpDef, WalkFault>
     ensures operation { result ≡ wait_in place (table_view table.now) }
     ensures fits { IfOk result (λ operation. IsTrue (op_fits 0 operation)) }
 {
-    let token = operand_at(table, key(place, Key::Token))?;
+    let token = operand_at(table, path_to(place, Key::Token))?;
     let into = into_at(table, place)?;
     Ok(OpDef::Wait { token, into })
 }
 
-fn alloc_in(table: &Table, place: Place) -> Result<OpDef, Fault>
+fn alloc_in(table: &Table, place: TablePlace) -> Result<OpDef, WalkFault>
     ensures operation { result ≡ alloc_in place (table_view table.now) }
     ensures fits { IfOk result (λ operation. IsTrue (op_fits 0 operation)) }
 {
-    let size = operand_at(table, key(place, Key::Size))?;
+    let size = operand_at(table, path_to(place, Key::Size))?;
     let into = into_at(table, place)?;
     Ok(OpDef::Alloc { size, into })
 }
 
-fn free_in(table: &Table, place: Place) -> Result<OpDef, Fault>
+fn free_in(table: &Table, place: TablePlace) -> Result<OpDef, WalkFault>
     ensures operation { result ≡ free_in place (table_view table.now) }
     ensures fits { IfOk result (λ operation. IsTrue (op_fits 0 operation)) }
 {
-    let freed = operand_at(table, key(place, Key::Place))?;
+    let freed = operand_at(table, path_to(place, Key::Place))?;
     Ok(OpDef::Free { place: freed })
 }
 
-fn register_in(table: &Table, place: Place, handlers: &[Value]) -> Result<OpDef, Fault>
+fn register_in(table: &Table, place: TablePlace, handlers: &[Value]) -> Result<OpDef, WalkFault>
     requires { length handlers.now ≤ 64 }
     ensures operation { result ≡ register_in (map view handlers.now) place (table_view table.now) }
     ensures fits { IfOk result (λ operation. IsTrue (op_fits (length handlers.now) operation)) }
@@ -229,15 +224,15 @@ fn register_in(table: &Table, place: Place, handlers: &[Value]) -> Result<OpDef,
     })
 }
 
-fn unregister_in(table: &Table, place: Place) -> Result<OpDef, Fault>
+fn unregister_in(table: &Table, place: TablePlace) -> Result<OpDef, WalkFault>
     ensures operation { result ≡ unregister_in place (table_view table.now) }
     ensures fits { IfOk result (λ operation. IsTrue (op_fits 0 operation)) }
 {
-    let handle = operand_at(table, key(place, Key::Handle))?;
+    let handle = operand_at(table, path_to(place, Key::Handle))?;
     Ok(OpDef::Unregister { handle })
 }
 
-fn manage_in(table: &Table, place: Place) -> Result<OpDef, Fault>
+fn manage_in(table: &Table, place: TablePlace) -> Result<OpDef, WalkFault>
     ensures operation { result ≡ manage_in place (table_view table.now) }
     ensures fits { IfOk result (λ operation. IsTrue (op_fits 0 operation)) }
 {
@@ -245,14 +240,14 @@ fn manage_in(table: &Table, place: Place) -> Result<OpDef, Fault>
     Ok(OpDef::Manage { kind })
 }
 
-// The keys of an operation behind its `op`.
+// The keys of an operation after its `op`.
 fn operation_by(
     alloc: Global,
     table: &Table,
-    place: Place,
+    place: TablePlace,
     handlers: &[Value],
     word: OperationWord,
-) -> Result<OpDef, Fault>
+) -> Result<OpDef, WalkFault>
     requires { length handlers.now ≤ 64 }
     ensures operation { IfOk result (λ operation. operation_by (map view handlers.now) place (table_view table.now) word ≡ Ok operation) }
     ensures fits { IfOk result (λ operation. IsTrue (op_fits (length handlers.now) operation)) }
@@ -298,15 +293,15 @@ fn operation_keys(word: OperationWord) -> &'static [Key]
 fn operation_in(
     alloc: Global,
     table: &Table,
-    place: Place,
+    place: TablePlace,
     handlers: &[Value],
-) -> Result<OpDef, Fault>
+) -> Result<OpDef, WalkFault>
     requires { length handlers.now ≤ 64 }
     ensures operation { IfOk result (λ operation. operation_in (map view handlers.now) place (table_view table.now) ≡ Ok operation) }
     ensures fits { IfOk result (λ operation. IsTrue (op_fits (length handlers.now) operation)) }
     ensures refused { IfErr result (StopsAt (operation_in (map view handlers.now) place (table_view table.now))) }
 {
-    let word = word_at(table, key(place, Key::Op))?;
+    let word = word_at(table, path_to(place, Key::Op))?;
     let operation = operation_by(alloc, table, place, handlers, word)?;
     refuse_others(alloc, table, place, operation_keys(word))?;
     Ok(operation)
@@ -319,13 +314,13 @@ fn operation_after(
     handler: usize,
     done: &[OpDef],
     handlers: &[Value],
-) -> Result<OpDef, Fault>
+) -> Result<OpDef, WalkFault>
     requires { length handlers.now ≤ 64 }
     ensures operation { IfOk result (λ operation. operation_after (map view handlers.now) handler done.now (view value.now) ≡ Ok operation) }
     ensures fits { IfOk result (λ operation. IsTrue (op_fits (length handlers.now) operation)) }
     ensures refused { IfErr result (StopsAt (operation_after (map view handlers.now) handler done.now (view value.now))) }
 {
-    let place = Place::Operation(handler, done.len());
+    let place = TablePlace::Operation(handler, done.len());
     let table = entry_of(value, place)?;
     operation_in(alloc, table, place, handlers)
 }
@@ -337,7 +332,7 @@ pub fn operations_of(
     values: &[Value],
     handler: usize,
     handlers: &[Value],
-) -> Result<Vec<OpDef>, Fault>
+) -> Result<Vec<OpDef>, WalkFault>
     requires { length handlers.now ≤ 64 }
     ensures operations { IfOk result (λ operations. each (operation_after (map view handlers.now) handler) [] (map view values.now) ≡ Ok operations.items) }
     ensures count { IfOk result (λ operations. length operations.items ≡ length values.now) }

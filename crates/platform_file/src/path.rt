@@ -1,9 +1,10 @@
 ghost use Rattle.std.specs.Prelude.{◌≡◌};
 ghost use Rattle.platform_file.specs.Path.{key_text};
+ghost use Rattle.platform_file.specs.Reading.{path_to};
 
 /// A table of a platform file. Entries of a list of tables are counted from 0.
-#[derive(Clone, Copy, Debug, PartialEq, Eq)]
-pub enum Place {
+#[derive(Clone, Copy)]
+pub enum TablePlace {
     Top,
     Smram,
     Wave(usize),
@@ -17,7 +18,7 @@ pub enum Place {
 }
 
 /// A key of version 1 of the platform file.
-#[derive(Clone, Copy, Debug, PartialEq, Eq)]
+#[derive(Clone, Copy)]
 pub enum Key {
     Version,
     Processors,
@@ -112,8 +113,15 @@ impl Key {
 }
 
 /// A key of a table.
-#[derive(Clone, Copy, Debug, PartialEq, Eq)]
+#[derive(Clone, Copy)]
 pub struct Path {
-    pub place: Place,
+    pub place: TablePlace,
     pub key: Key,
+}
+
+/// A key of this table.
+pub fn path_to(place: TablePlace, key: Key) -> Path
+    ensures { result ≡ path_to place key }
+{
+    Path { place, key }
 }

@@ -6,11 +6,11 @@ ghost use Rattle.platform_file.specs.Reading.{StopsAt, each, path_to};
 ghost use Rattle.platform_file.specs.Handlers.{name_at, has_procedure, procedure_in, procedure_after, procedures_at};
 
 use crate::document::{entry_of, refuse_others, text_at, word_at};
-use crate::fault::Fault;
+use crate::fault::WalkFault;
 use crate::handlers::name_after;
 use crate::head::procedure_entries;
 use crate::operations::register_at;
-use crate::path::{Key, Path, Place};
+use crate::path::{Key, Path, TablePlace, path_to};
 use cpu_table::{Items, ProcedureDef, Text};
 use std::alloc::Global;
 use toml::{Table, Value};
@@ -26,7 +26,12 @@ fn is_taken(done: &[ProcedureDef], name: &Text) -> bool
 }
 
 // The name of the next procedure.
-fn name_at(alloc: Global, table: &Table, done: &[ProcedureDef], path: Path) -> Result<Text, Fault>
+fn name_at(
+    alloc: Global,
+    table: &Table,
+    done: &[ProcedureDef],
+    path: Path,
+) -> Result<Text, WalkFault>
     ensures name { IfOk result (λ name. name_at (has_procedure done.now) path (table_view table.now) ≡ Ok name) }
     ensures fits { IfOk result (λ name. IsTrue (is_name name)) }
     ensures fresh { IfOk result (λ name. IsFalse (has_procedure done.now name)) }
@@ -42,29 +47,15 @@ fn procedure_in(
     alloc: Global,
     table: &Table,
     done: &[ProcedureDef],
-    place: Place,
-) -> Result<ProcedureDef, Fault>
+    place: TablePlace,
+) -> Result<ProcedureDef, WalkFault>
     ensures procedure { IfOk result (λ procedure. procedure_in done.now place (table_view table.now) ≡ Ok procedure) }
     ensures fits { IfOk result (λ procedure. IsTrue (procedure_fits procedure)) }
     ensures fresh { IfOk result (λ procedure. IsFalse (has_procedure done.now procedure.name)) }
     ensures refused { IfErr result (StopsAt (procedure_in done.now place (table_view table.now))) }
 {
-    let name = name_at(
-        alloc,
-        table,
-        done,
-        Path {
-            place,
-            key: Key::Name,
-        },
-    )?;
-    let act = word_at(
-        table,
-        Path {
-            place,
-            key: Key::Act,
-        },
-    )?;
+    let name = name_at(alloc, table, done, path_to(place, Key::Name))?;
+    let act = word_at(table, path_to(place, Key::Act))?;
     let reg = register_at(table, place)?;
     refuse_others(alloc, table, place, &KEYS)?;
     Ok(ProcedureDef { name, act, reg })
@@ -75,19 +66,19 @@ fn procedure_after(
     alloc: Global,
     value: &Value,
     done: &[ProcedureDef],
-) -> Result<ProcedureDef, Fault>
+) -> Result<ProcedureDef, WalkFault>
     ensures procedure { IfOk result (λ procedure. procedure_after done.now (view value.now) ≡ Ok procedure) }
     ensures fits { IfOk result (λ procedure. IsTrue (procedure_fits procedure)) }
     ensures fresh { IfOk result (λ procedure. IsFalse (has_procedure done.now procedure.name)) }
     ensures refused { IfErr result (StopsAt (procedure_after done.now (view value.now))) }
 {
-    let place = Place::Procedure(done.len());
+    let place = TablePlace::Procedure(done.len());
     let table = entry_of(value, place)?;
     procedure_in(alloc, table, done, place)
 }
 
 // The procedures of the entries.
-fn procedures_of(alloc: Global, values: &[Value]) -> Result<Vec<ProcedureDef>, Fault>
+fn procedures_of(alloc: Global, values: &[Value]) -> Result<Vec<ProcedureDef>, WalkFault>
     requires { length values.now ≤ 64 }
     ensures procedures { IfOk result (λ procedures. each procedure_after [] (map view values.now) ≡ Ok procedures.items) }
     ensures fit { IfOk result (λ procedures. IsTrue (procedures_fit procedures.items)) }
@@ -102,7 +93,7 @@ fn procedures_of(alloc: Global, values: &[Value]) -> Result<Vec<ProcedureDef>, F
 }
 
 /// The procedures of a file.
-pub fn procedures_at(alloc: Global, table: &Table) -> Result<Items<ProcedureDef>, Fault>
+pub fn procedures_at(alloc: Global, table: &Table) -> Result<Items<ProcedureDef>, WalkFault>
     ensures procedures { IfOk result (λ procedures. procedures_at (table_view table.now) ≡ Ok procedures) }
     ensures fit { IfOk result (λ procedures. IsTrue (procedures_fit procedures)) }
     ensures refused { IfErr result (StopsAt (procedures_at (table_view table.now))) }

@@ -5,12 +5,12 @@ ghost use Rattle.std.specs.List.{list_all};
 ghost use Rattle.platform_file.specs.Reading.{StopsAt, each, word_of, path_to};
 ghost use Rattle.platform_file.specs.Words.{arrival_of, kind_of};
 ghost use Rattle.platform_file.specs.Waves.{statuses_at, walks_at, wave_in, wave_after, waves_at};
-ghost use Rattle.platform_file.specs.declared.path.Place.TheVariants as place;
+ghost use Rattle.platform_file.specs.declared.path.TablePlace.TheVariants as place;
 
 use crate::document::{entry_of, list_at, refuse_others, words_of};
-use crate::fault::Fault;
+use crate::fault::WalkFault;
 use crate::head::wave_entries;
-use crate::path::{Key, Path, Place};
+use crate::path::{Key, Path, TablePlace};
 use cpu_table::{Arrival, Items, Wave};
 use smm_base::HandlerType;
 use std::alloc::Global;
@@ -24,7 +24,7 @@ fn statuses_at(
     table: &Table,
     path: Path,
     processors: u16,
-) -> Result<Items<Arrival>, Fault>
+) -> Result<Items<Arrival>, WalkFault>
     ensures statuses { IfOk result (λ statuses. statuses_at processors path (table_view table.now) ≡ Ok statuses) }
     ensures count { IfOk result (λ statuses. length statuses ≡ processors) }
     ensures refused { IfErr result (StopsAt (statuses_at processors path (table_view table.now))) }
@@ -36,7 +36,7 @@ fn statuses_at(
 }
 
 // The walks of a wave, at most 16.
-fn walks_at(alloc: Global, table: &Table, path: Path) -> Result<Items<HandlerType>, Fault>
+fn walks_at(alloc: Global, table: &Table, path: Path) -> Result<Items<HandlerType>, WalkFault>
     ensures walks { IfOk result (λ walks. walks_at path (table_view table.now) ≡ Ok walks) }
     ensures few { IfOk result (λ walks. length walks ≤ 16) }
     ensures refused { IfErr result (StopsAt (walks_at path (table_view table.now))) }
@@ -47,7 +47,12 @@ fn walks_at(alloc: Global, table: &Table, path: Path) -> Result<Items<HandlerTyp
 }
 
 // The wave that a table tells.
-fn wave_in(alloc: Global, table: &Table, place: Place, processors: u16) -> Result<Wave, Fault>
+fn wave_in(
+    alloc: Global,
+    table: &Table,
+    place: TablePlace,
+    processors: u16,
+) -> Result<Wave, WalkFault>
     ensures wave { IfOk result (λ wave. wave_in processors place (table_view table.now) ≡ Ok wave) }
     ensures fits { IfOk result (λ wave. IsTrue (wave_fits processors wave)) }
     ensures refused { IfErr result (StopsAt (wave_in processors place (table_view table.now))) }
@@ -67,18 +72,23 @@ fn wave_in(alloc: Global, table: &Table, place: Place, processors: u16) -> Resul
 }
 
 // The next wave.
-fn wave_after(alloc: Global, value: &Value, done: &[Wave], processors: u16) -> Result<Wave, Fault>
+fn wave_after(
+    alloc: Global,
+    value: &Value,
+    done: &[Wave],
+    processors: u16,
+) -> Result<Wave, WalkFault>
     ensures wave { IfOk result (λ wave. wave_after processors done.now (view value.now) ≡ Ok wave) }
     ensures fits { IfOk result (λ wave. IsTrue (wave_fits processors wave)) }
     ensures refused { IfErr result (StopsAt (wave_after processors done.now (view value.now))) }
 {
-    let place = Place::Wave(done.len());
+    let place = TablePlace::Wave(done.len());
     let table = entry_of(value, place)?;
     wave_in(alloc, table, place, processors)
 }
 
 // The waves of a list of entries.
-fn waves_of(alloc: Global, values: &[Value], processors: u16) -> Result<Vec<Wave>, Fault>
+fn waves_of(alloc: Global, values: &[Value], processors: u16) -> Result<Vec<Wave>, WalkFault>
     ensures waves { IfOk result (λ waves. each (wave_after processors) [] (map view values.now) ≡ Ok waves.items) }
     ensures count { IfOk result (λ waves. length waves.items ≡ length values.now) }
     ensures fit { IfOk result (λ waves. IsTrue (list_all (wave_fits processors) waves.items)) }
@@ -98,7 +108,7 @@ pub fn waves_at(
     table: &Table,
     processors: u16,
     visits: u32,
-) -> Result<Items<Wave>, Fault>
+) -> Result<Items<Wave>, WalkFault>
     ensures waves { IfOk result (λ waves. waves_at processors visits (table_view table.now) ≡ Ok waves) }
     ensures fit { IfOk result (λ waves. IsTrue (waves_fit processors visits waves)) }
     ensures refused { IfErr result (StopsAt (waves_at processors visits (table_view table.now))) }

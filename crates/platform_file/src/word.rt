@@ -1,6 +1,6 @@
 ghost use Rattle.std.specs.Prelude.{◌≡◌, ℕ, List, Option, Some};
 ghost use Rattle.std.specs.Option.{option_map};
-ghost use Rattle.platform_file.specs.Words.{map_of, policy_of, mode_of, arrival_of, answer_of, guid_of, kind_of, start_list_of, act_of, operation_of, variable_of};
+ghost use Rattle.platform_file.specs.Words.{map_of, policy_of, mode_of, arrival_of, answer_of, guid_of, kind_of, start_list_of, act_of, operation_word, variable_of};
 
 use cpu_table::{Act, Arrival, Mode};
 use smm_base::{HandlerType, MapKind, Status};
@@ -16,14 +16,14 @@ pub trait Word: Sized {
 }
 
 /// The words of the key `policy`.
-#[derive(Clone, Copy, Debug, PartialEq, Eq)]
+#[derive(Clone, Copy)]
 pub enum PolicyWord {
     Elected,
     Fixed,
 }
 
 /// The words of the key `op`.
-#[derive(Clone, Copy, Debug, PartialEq, Eq)]
+#[derive(Clone, Copy)]
 pub enum OperationWord {
     Set,
     Read,
@@ -117,7 +117,7 @@ impl Word for Act {
 }
 
 impl Word for OperationWord {
-    ghost meaning = { operation_of };
+    ghost meaning = { operation_word };
 
     fn of(text: &str) -> Option<Self> {
         match text {

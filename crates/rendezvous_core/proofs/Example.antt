@@ -3,6 +3,7 @@ use Rattle.std.proofs.Common.{ℕ, ◌≡◌, true, List, [], ◌∷◌, ◌++�
 use Rattle.smm_base.specs.declared.kinds.HandlerType.TheVariants.{Root}
 use Rattle.smm_base.specs.declared.registers.Register.TheVariants.{Rax}
 use Rattle.smm_base.specs.declared.status.Status.TheVariants.{Success, NotFound}
+use Rattle.cpu_regs.specs.Registers.{loaded}
 use Rattle.sync_words.specs.declared.access.Access.TheVariants as access
 use Rattle.sync_words.specs.declared.label.Label.TheVariants as label
 use Rattle.sync_words.specs.declared.word.WordId.TheVariants as word
@@ -23,20 +24,20 @@ writer = record { kind = Some Root; answer = Success; ops = operation 0 Rax 8 56
 abbrev without_handler : List ℕ
 without_handler = replicate 3 1 ++ replicate 15 0 ++ replicate 3 1 ++ replicate 6 0
 
-found : map (λ e. e.found) (replay_events (platform 3 64 []) (no_image ∷ []) without_handler) ≡ 0 ∷ 0 ∷ 0 ∷ 1 ∷ 1 ∷ 0 ∷ 0 ∷ 16777215 ∷ 0 ∷ 1 ∷ 0 ∷ 1 ∷ 0 ∷ 1 ∷ 1 ∷ 1 ∷ 1 ∷ 1 ∷ 0 ∷ 0 ∷ 8 ∷ 0 ∷ 1 ∷ 16777215 ∷ 0 ∷ 12 ∷ 4 ∷ []
+found : map (λ e. e.found) (replay_events (platform 3 64 []) (loaded no_image ∷ []) (no_image ∷ []) without_handler) ≡ 0 ∷ 0 ∷ 0 ∷ 1 ∷ 1 ∷ 0 ∷ 0 ∷ 16777215 ∷ 0 ∷ 1 ∷ 0 ∷ 1 ∷ 0 ∷ 1 ∷ 1 ∷ 1 ∷ 1 ∷ 1 ∷ 0 ∷ 0 ∷ 8 ∷ 0 ∷ 1 ∷ 16777215 ∷ 0 ∷ 12 ∷ 4 ∷ []
 found = refl
 
-complete : is_complete (replay_world (platform 3 64 []) (no_image ∷ []) without_handler) ≡ true
+complete : is_complete (replay_world (platform 3 64 []) (loaded no_image ∷ []) (no_image ∷ []) without_handler) ≡ true
 complete = refl
 
 abbrev with_handler : List ℕ
 with_handler = replicate 3 1 ++ replicate 18 0 ++ replicate 3 1 ++ replicate 6 0
 
-thirty : length (replay_events (platform 3 64 (writer ∷ [])) (no_image ∷ []) with_handler) ≡ 30
+thirty : length (replay_events (platform 3 64 (writer ∷ [])) (loaded no_image ∷ []) (no_image ∷ []) with_handler) ≡ 30
 thirty = refl
 
 -- after the last of its visits a processor turns itself off, before the chipset does
-one_visit : drop 23 (replay_events (platform 1 64 []) (no_image ∷ []) (replicate 3 1 ++ replicate 22 0)) ≡ record { actor = 0; word = word.Pend 0; access = access.Put 4; found = 0; label = label.Off } ∷ []
+one_visit : drop 23 (replay_events (platform 1 64 []) (loaded no_image ∷ []) (no_image ∷ []) (replicate 3 1 ++ replicate 22 0)) ≡ record { actor = 0; word = word.Pend 0; access = access.Put 4; found = 0; label = label.Off } ∷ []
 one_visit = refl
 
 -- the units of a session

@@ -104,7 +104,7 @@ labels_keep p i [] kind x keeps = keeps
 labels_keep p i (e ∷ es) kind x keeps = labels_keep p i es kind (resumed_by p i e.0 e.1 x) (label_keeps p i e.0 e.1 kind x keeps)
 
 -- the image that the labels leave is of the kind of the first one
-pub resumed_kind : (p : Platform) (i : ℕ) (m : ImageContents) (es : List (ℕ × Label)) → (resumed_image p i m es).kind ≡ m.kind
-resumed_kind p i m es =
-    let start : Resumed = record { visits = 0; registers = loaded m; image = m; last = m } in
+pub resumed_kind : (p : Platform) (i : ℕ) (r : Registers) (m : ImageContents) (es : List (ℕ × Label)) → (resumed_image p i r m es).kind ≡ m.kind
+resumed_kind p i r m es =
+    let start : Resumed = record { visits = 0; registers = r; image = m; last = m } in
     (labels_keep p i es m.kind start (record { image = refl; last = refl })).last

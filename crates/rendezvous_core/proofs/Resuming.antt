@@ -2,7 +2,7 @@
 use Rattle.std.proofs.Common.{ℕ, zero, suc, ◌≡◌, ◌≢◌, arith, List, [], ◌∷◌, refl, sym, ap, subst}
 use Rattle.std.proofs.lemmas.Bool.{ne_eqb}
 use Rattle.save_state_map.specs.Images.{ImageContents}
-use Rattle.cpu_regs.specs.Registers.{loaded}
+use Rattle.cpu_regs.specs.Registers.{Registers, loaded}
 use Rattle.sync_words.specs.declared.label.Label.{Label}
 use Rattle.sync_words.specs.declared.label.Label.TheVariants as label
 use Rattle.rendezvous_core.specs.Platform.{Platform}
@@ -39,10 +39,10 @@ one_after p (e ∷ es) m r h =
     one_after p es (effect p m e.0 e.1) (resumed_by p 0 e.0 e.1 r) (subst Q h.resumed (subst P is (one_by p h.processor m e.0 e.1)))
 
 -- the machine's last resumed image of the one processor, from the labels
-pub resumed_is_last : (p : Platform) (m : ImageContents) (es : List (ℕ × Label)) → resumed_image p 0 m es ≡ (member (machine_after p (beginning (m ∷ [])) es) 0).last
-resumed_is_last p m es =
-    let start : Resumed = record { visits = 0; registers = loaded m; image = m; last = m } in
-    let h : IsOne (machine_after p (beginning (m ∷ [])) es) (resumed_after p 0 start es) = one_after p es (beginning (m ∷ [])) start (record { processor = first_member m; one = refl; resumed = refl }) in
-    let a : resumed_image p 0 m es ≡ h.processor.last = ap (λ (r : Resumed). r.last) (sym h.resumed) in
-    let P : List Member → Type 0 = λ (xs : List Member). resumed_image p 0 m es ≡ (member (record (machine_after p (beginning (m ∷ [])) es) { members = xs }) 0).last in
+pub resumed_is_last : (p : Platform) (r : Registers) (m : ImageContents) (es : List (ℕ × Label)) → resumed_image p 0 r m es ≡ (member (machine_after p (beginning (r ∷ []) (m ∷ [])) es) 0).last
+resumed_is_last p r m es =
+    let start : Resumed = record { visits = 0; registers = r; image = m; last = m } in
+    let h : IsOne (machine_after p (beginning (r ∷ []) (m ∷ [])) es) (resumed_after p 0 start es) = one_after p es (beginning (r ∷ []) (m ∷ [])) start (record { processor = first_member r m; one = refl; resumed = refl }) in
+    let a : resumed_image p 0 r m es ≡ h.processor.last = ap (λ (x : Resumed). x.last) (sym h.resumed) in
+    let P : List Member → Type 0 = λ (xs : List Member). resumed_image p 0 r m es ≡ (member (record (machine_after p (beginning (r ∷ []) (m ∷ [])) es) { members = xs }) 0).last in
     subst P (sym h.one) a

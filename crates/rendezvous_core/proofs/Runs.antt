@@ -1,7 +1,7 @@
 -- The labels of every schedule on a platform of one processor are a run of the machine.
 use Rattle.std.proofs.Common.{ℕ, zero, suc, ◌≡◌, ◌<◌, arith, false, List, [], ◌∷◌, length, map, Option, Some, IsTrue, refl, sym, ap, subst, ◌∙◌}
 use Rattle.save_state_map.specs.Images.{ImageContents}
-use Rattle.cpu_regs.specs.Registers.{loaded}
+use Rattle.cpu_regs.specs.Registers.{Registers}
 use Rattle.sync_words.specs.declared.event.Event.{Event}
 use Rattle.sync_words.specs.declared.label.Label.{Label}
 use Rattle.sync_words.specs.declared.label.Label.TheVariants as label
@@ -16,6 +16,7 @@ use Rattle.rendezvous_core.specs.Platform.{Platform, Handler, with_one}
 use Rattle.rendezvous_core.specs.Worlds.{World, step, with_event, events_from, world_after, start, labels, with_label, replay_events, replay_world, last_image}
 use Rattle.rendezvous_core.specs.Machine.{Machine, Rule, effect, IsRun, beginning, machine_after, member}
 use Rattle.rendezvous_core.specs.Setups.{platform_of, handler_of, is_built, AreImagesOf}
+use Rattle.rendezvous_core.specs.Starts.{first_registers_of, first_registers}
 use Rattle.rendezvous_core.proofs.SetupLemmas.{built_of, built_with_one, one_image}
 use Rattle.rendezvous_core.proofs.Shape.{Shape, Holds, IsFine, Kept, KeptBy, world_at, machine_at}
 use Rattle.rendezvous_core.proofs.Processor.{fine, processor_kept}
@@ -76,51 +77,51 @@ last_is p w m f =
     let Q : Machine → Type 0 = λ (n : Machine). last_image (world_at f.processor f.chipset f.shape) 0 ≡ Some (member n 0).last in
     subst P f.world_is (subst Q f.machine_is refl)
 
-abbrev first : ImageContents → Shape
-first m =
-    record { visits = 0; saw_source = 0; saw_inside = 0; wave = 0; blocked = 0; said = []; taken = []; rest = []; in_set = false; next_wave = 1; waves = 0; source = 0; except = 0; pend = 0; registers = loaded m; image = m; last = m }
+abbrev first : Registers → ImageContents → Shape
+first r m =
+    record { visits = 0; saw_source = 0; saw_inside = 0; wave = 0; blocked = 0; said = []; taken = []; rest = []; in_set = false; next_wave = 1; waves = 0; source = 0; except = 0; pend = 0; registers = r; image = m; last = m }
 
-start_fine : (a b v o : ℕ) (ws : List Wave) (hs : List Handler) (cs : List CauseAt) (m : ImageContents) → 0 < v → 0 < length ws → IsFine (with_one a b v o ws hs cs) (start (with_one a b v o ws hs cs) (m ∷ [])) (beginning (m ∷ []))
-start_fine a b v o ws hs cs m visits waves =
-    fine (with_one a b v o ws hs cs) (Some AwaitSmi) (Some AnnounceBlocked) (first m) (record {
+start_fine : (a b v o : ℕ) (ws : List Wave) (hs : List Handler) (cs : List CauseAt) (r : Registers) (m : ImageContents) → 0 < v → 0 < length ws → IsFine (with_one a b v o ws hs cs) (start (with_one a b v o ws hs cs) (r ∷ []) (m ∷ [])) (beginning (r ∷ []) (m ∷ []))
+start_fine a b v o ws hs cs r m visits waves =
+    fine (with_one a b v o ws hs cs) (Some AwaitSmi) (Some AnnounceBlocked) (first r m) (record {
       processor = (visits, refl);
       chipset = (waves, refl);
       signal = record { low = omega arith; high = omega arith; deliverable = λ q. absurd (omega arith); deliverable_inside = λ q. absurd (omega arith); off = λ q r. absurd (omega arith); off_inside = λ q. absurd (omega arith) };
     })
 
-pub every_run : (a b v o : ℕ) (ws : List Wave) (hs : List Handler) (cs : List CauseAt) (m : ImageContents) (schedule : List ℕ) → 0 < v → 0 < length ws → IsRun (with_one a b v o ws hs cs) (beginning (m ∷ [])) (labels (replay_events (with_one a b v o ws hs cs) (m ∷ []) schedule))
-every_run a b v o ws hs cs m schedule visits waves =
-    run_from a b v o ws hs cs schedule (start (with_one a b v o ws hs cs) (m ∷ [])) (beginning (m ∷ [])) (start_fine a b v o ws hs cs m visits waves)
+pub every_run : (a b v o : ℕ) (ws : List Wave) (hs : List Handler) (cs : List CauseAt) (r : Registers) (m : ImageContents) (schedule : List ℕ) → 0 < v → 0 < length ws → IsRun (with_one a b v o ws hs cs) (beginning (r ∷ []) (m ∷ [])) (labels (replay_events (with_one a b v o ws hs cs) (r ∷ []) (m ∷ []) schedule))
+every_run a b v o ws hs cs r m schedule visits waves =
+    run_from a b v o ws hs cs schedule (start (with_one a b v o ws hs cs) (r ∷ []) (m ∷ [])) (beginning (r ∷ []) (m ∷ [])) (start_fine a b v o ws hs cs r m visits waves)
 
 -- the replay leaves the machine's last resumed image
-pub every_last : (a b v o : ℕ) (ws : List Wave) (hs : List Handler) (cs : List CauseAt) (m : ImageContents) (schedule : List ℕ) → 0 < v → 0 < length ws → last_image (replay_world (with_one a b v o ws hs cs) (m ∷ []) schedule) 0 ≡ Some (member (machine_after (with_one a b v o ws hs cs) (beginning (m ∷ [])) (labels (replay_events (with_one a b v o ws hs cs) (m ∷ []) schedule))) 0).last
-every_last a b v o ws hs cs m schedule visits waves =
+pub every_last : (a b v o : ℕ) (ws : List Wave) (hs : List Handler) (cs : List CauseAt) (r : Registers) (m : ImageContents) (schedule : List ℕ) → 0 < v → 0 < length ws → last_image (replay_world (with_one a b v o ws hs cs) (r ∷ []) (m ∷ []) schedule) 0 ≡ Some (member (machine_after (with_one a b v o ws hs cs) (beginning (r ∷ []) (m ∷ [])) (labels (replay_events (with_one a b v o ws hs cs) (r ∷ []) (m ∷ []) schedule))) 0).last
+every_last a b v o ws hs cs r m schedule visits waves =
     let p : Platform = with_one a b v o ws hs cs in
-    last_is p (replay_world p (m ∷ []) schedule) (machine_after p (beginning (m ∷ [])) (labels (replay_events p (m ∷ []) schedule)))
-    (fine_after a b v o ws hs cs schedule (start p (m ∷ [])) (beginning (m ∷ [])) (start_fine a b v o ws hs cs m visits waves))
+    last_is p (replay_world p (r ∷ []) (m ∷ []) schedule) (machine_after p (beginning (r ∷ []) (m ∷ [])) (labels (replay_events p (r ∷ []) (m ∷ []) schedule)))
+    (fine_after a b v o ws hs cs schedule (start p (r ∷ []) (m ∷ [])) (beginning (r ∷ []) (m ∷ [])) (start_fine a b v o ws hs cs r m visits waves))
 
 -- the same of the platform of a setup that is built
-abbrev RunsOn : Platform → List ImageContents → List ℕ → Type 0
-RunsOn p images schedule = IsRun p (beginning images) (labels (replay_events p images schedule))
+abbrev RunsOn : Platform → List Registers → List ImageContents → List ℕ → Type 0
+RunsOn p registers images schedule = IsRun p (beginning registers images) (labels (replay_events p registers images schedule))
 
-pub built_run : (s : SetupData) (images : List ImageContents) (schedule : List ℕ) → IsTrue (is_built s) → 0 < s.visits → AreImagesOf s images → RunsOn (platform_of s) images schedule
+pub built_run : (s : SetupData) (images : List ImageContents) (schedule : List ℕ) → IsTrue (is_built s) → 0 < s.visits → AreImagesOf s images → RunsOn (platform_of s) (first_registers s images) images schedule
 built_run s images schedule built visits given =
     let is = built_of s built in
     let image = one_image images (given.count ∙ is.processors) in
     let some : 0 < length s.waves = omega (arith, ap (λ (ws : List Wave). length ws) is.waves) in
-    let P : Platform → Type 0 = λ (p : Platform). RunsOn p images schedule in
-    let Q : List ImageContents → Type 0 = λ (ms : List ImageContents). RunsOn (with_one s.t1 s.t2 s.visits s.ops s.waves (map handler_of s.handlers) s.causes) ms schedule in
-    subst P (built_with_one s built) (subst Q (sym image.1) (every_run s.t1 s.t2 s.visits s.ops s.waves (map handler_of s.handlers) s.causes image.0 schedule visits some))
+    let P : Platform → Type 0 = λ (p : Platform). RunsOn p (first_registers s images) images schedule in
+    let Q : List ImageContents → Type 0 = λ (ms : List ImageContents). RunsOn (with_one s.t1 s.t2 s.visits s.ops s.waves (map handler_of s.handlers) s.causes) (first_registers s ms) ms schedule in
+    subst P (built_with_one s built) (subst Q (sym image.1) (every_run s.t1 s.t2 s.visits s.ops s.waves (map handler_of s.handlers) s.causes (first_registers_of s 0 image.0) image.0 schedule visits some))
 
-abbrev LastOn : Platform → List ImageContents → List ℕ → Type 0
-LastOn p images schedule =
-    last_image (replay_world p images schedule) 0 ≡ Some (member (machine_after p (beginning images) (labels (replay_events p images schedule))) 0).last
+abbrev LastOn : Platform → List Registers → List ImageContents → List ℕ → Type 0
+LastOn p registers images schedule =
+    last_image (replay_world p registers images schedule) 0 ≡ Some (member (machine_after p (beginning registers images) (labels (replay_events p registers images schedule))) 0).last
 
-pub built_last : (s : SetupData) (images : List ImageContents) (schedule : List ℕ) → IsTrue (is_built s) → 0 < s.visits → AreImagesOf s images → LastOn (platform_of s) images schedule
+pub built_last : (s : SetupData) (images : List ImageContents) (schedule : List ℕ) → IsTrue (is_built s) → 0 < s.visits → AreImagesOf s images → LastOn (platform_of s) (first_registers s images) images schedule
 built_last s images schedule built visits given =
     let is = built_of s built in
     let image = one_image images (given.count ∙ is.processors) in
     let some : 0 < length s.waves = omega (arith, ap (λ (ws : List Wave). length ws) is.waves) in
-    let P : Platform → Type 0 = λ (p : Platform). LastOn p images schedule in
-    let Q : List ImageContents → Type 0 = λ (ms : List ImageContents). LastOn (with_one s.t1 s.t2 s.visits s.ops s.waves (map handler_of s.handlers) s.causes) ms schedule in
-    subst P (built_with_one s built) (subst Q (sym image.1) (every_last s.t1 s.t2 s.visits s.ops s.waves (map handler_of s.handlers) s.causes image.0 schedule visits some))
+    let P : Platform → Type 0 = λ (p : Platform). LastOn p (first_registers s images) images schedule in
+    let Q : List ImageContents → Type 0 = λ (ms : List ImageContents). LastOn (with_one s.t1 s.t2 s.visits s.ops s.waves (map handler_of s.handlers) s.causes) (first_registers s ms) ms schedule in
+    subst P (built_with_one s built) (subst Q (sym image.1) (every_last s.t1 s.t2 s.visits s.ops s.waves (map handler_of s.handlers) s.causes (first_registers_of s 0 image.0) image.0 schedule visits some))

@@ -1,7 +1,7 @@
 -- What is known of the platform of a setup that is built.
 use Rattle.std.proofs.Common.{ℕ, zero, suc, ◌≡◌, ◌≢◌, arith, true, ◌&&◌, ◌==◌, List, [], ◌∷◌, length, map, IsTrue, refl, sym, ap, subst, ◌∙◌}
 use Rattle.std.proofs.lemmas.Bool.{and_parts, eqb-true}
-use Rattle.std.specs.Prelude.{slice_get, is_none}
+use Rattle.std.specs.Prelude.{slice_get}
 use Rattle.smm_base.specs.declared.kinds.HandlerType.{HandlerType}
 use Rattle.smm_base.specs.declared.kinds.HandlerType.TheVariants.{Root, Typed}
 use Rattle.save_state_map.specs.Images.{ImageContents}
@@ -55,12 +55,11 @@ pub record IsBuiltOf (s : SetupData) : Type 0 where
 
 pub built_of : (s : SetupData) → IsTrue (is_built s) → IsBuiltOf s
 built_of s h =
-    let a = and_parts (s.processors == 1 && is_elected s.policy && is_traditional s.mode && is_none s.smram && is_one_wave s.waves) (are_built_handlers s.handlers) h in
-    let b = and_parts (s.processors == 1 && is_elected s.policy && is_traditional s.mode && is_none s.smram) (is_one_wave s.waves) a.0 in
-    let c = and_parts (s.processors == 1 && is_elected s.policy && is_traditional s.mode) (is_none s.smram) b.0 in
-    let d = and_parts (s.processors == 1 && is_elected s.policy) (is_traditional s.mode) c.0 in
-    let e = and_parts (s.processors == 1) (is_elected s.policy) d.0 in
-    record { processors = eqb-true s.processors 1 e.0; waves = waves_are s.waves b.1; handlers = a.1 }
+    let a = and_parts (s.processors == 1 && is_elected s.policy && is_traditional s.mode && is_one_wave s.waves) (are_built_handlers s.handlers) h in
+    let b = and_parts (s.processors == 1 && is_elected s.policy && is_traditional s.mode) (is_one_wave s.waves) a.0 in
+    let c = and_parts (s.processors == 1 && is_elected s.policy) (is_traditional s.mode) b.0 in
+    let d = and_parts (s.processors == 1) (is_elected s.policy) c.0 in
+    record { processors = eqb-true s.processors 1 d.0; waves = waves_are s.waves b.1; handlers = a.1 }
 
 pub built_plain : (s : SetupData) → IsTrue (is_built s) → IsPlain (platform_of s)
 built_plain s h =

@@ -10,6 +10,8 @@ pub mod Serving
 pub mod ServingInside
 pub mod Setups
 pub mod Stand
+pub mod Starts
 pub mod WordMap
+pub mod Words
 pub mod WorldInside
 pub mod Worlds

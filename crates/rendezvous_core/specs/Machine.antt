@@ -1,6 +1,6 @@
 -- The rendezvous machine: phases, sets and a session; no words, semaphores, flags or positions. Which label may come
 -- in which state, and what it changes. It has the rules of the labels that one processor and the chipset say.
-use Rattle.std.specs.Prelude.{ℕ, ◌+◌, ◌≡◌, ◌≢◌, ◌<◌, ◌≤◌, ◌⊎◌, Bool, true, false, List, [], ◌∷◌, ◌++◌, length, slice_index_or, slice_set, map, ◌==◌, nat_lt, if◌then◌else◌, Option, Some, None, IsSome, IsSomeAnd}
+use Rattle.std.specs.Prelude.{ℕ, ◌+◌, ◌≡◌, ◌≢◌, ◌<◌, ◌≤◌, ◌⊎◌, Bool, true, false, List, [], ◌∷◌, ◌++◌, length, slice_index_or, slice_set, map, zip, ◌==◌, nat_lt, if◌then◌else◌, Option, Some, None, IsSome, IsSomeAnd}
 use Rattle.std.specs.Option.{option_map}
 use Rattle.std.specs.Bool.{MatchBool}
 use Rattle.std.specs.List.{count_by}
@@ -225,15 +225,15 @@ abbrev pub machine_after : Platform → Machine → List (ℕ × Label) → Mach
 machine_after p m [] = m
 machine_after p m (e ∷ es) = machine_after p (effect p m e.0 e.1) es
 
--- at the start every processor is Out with its image and the registers that this holds, and there is no session
-abbrev pub first_member : ImageContents → Member
-first_member m = record nobody { phase = Out; registers = loaded m; image = m; last = m }
+-- at the start every processor is Out with its registers and its image, and there is no session
+abbrev pub first_member : Registers → ImageContents → Member
+first_member registers m = record nobody { phase = Out; registers = registers; image = m; last = m }
 
-abbrev pub beginning : List ImageContents → Machine
-beginning images =
-    record { members = map first_member images; waves = 0; excepted = 0; last_excepted = 0; source = 0; session = None }
+abbrev pub beginning : List Registers → List ImageContents → Machine
+beginning registers images =
+    record { members = map (λ x. first_member x.0 x.1) (zip registers images); waves = 0; excepted = 0; last_excepted = 0; source = 0; session = None }
 
--- The image that processor i last resumed from, from the labels and the platform's causes alone: entering saves the
+-- The image that processor i last resumed from, from its first registers and image, the labels and the platform's causes alone: entering saves the
 -- registers with the cause of the visit into the image, a write with SUCCESS that names i changes it, and resuming hands
 -- it on and loads the registers from it.
 pub record Resumed : Type 0 where
@@ -261,5 +261,5 @@ abbrev pub resumed_after : Platform → ℕ → Resumed → List (ℕ × Label) 
 resumed_after p i x [] = x
 resumed_after p i x (e ∷ es) = resumed_after p i (resumed_by p i e.0 e.1 x) es
 
-abbrev pub resumed_image : Platform → ℕ → ImageContents → List (ℕ × Label) → ImageContents
-resumed_image p i m es = (resumed_after p i (record { visits = 0; registers = loaded m; image = m; last = m }) es).last
+abbrev pub resumed_image : Platform → ℕ → Registers → ImageContents → List (ℕ × Label) → ImageContents
+resumed_image p i registers m es = (resumed_after p i (record { visits = 0; registers = registers; image = m; last = m }) es).last

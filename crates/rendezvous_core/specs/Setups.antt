@@ -1,5 +1,5 @@
 -- The platform that a setup describes, and the setups that are built.
-use Rattle.std.specs.Prelude.{ℕ, ◌==◌, ◌≡◌, ◌&&◌, Bool, true, false, List, [], ◌∷◌, length, map, filter_map, Option, Some, None, is_none, All}
+use Rattle.std.specs.Prelude.{ℕ, ◌==◌, ◌≡◌, ◌&&◌, Bool, true, false, List, [], ◌∷◌, length, map, filter_map, Option, Some, None, All}
 use Rattle.std.specs.List.{list_all}
 use Rattle.std.specs.Option.{option_map}
 use Rattle.smm_base.specs.declared.kinds.HandlerType.{HandlerType}
@@ -7,7 +7,7 @@ use Rattle.smm_base.specs.declared.kinds.HandlerType.TheVariants.{Root}
 use Rattle.smm_base.specs.declared.kinds.Policy.{Policy}
 use Rattle.smm_base.specs.declared.kinds.Policy.TheVariants.{Elected}
 use Rattle.smm_base.specs.declared.registers.Register.{Register}
-use Rattle.save_state_access.specs.Table.{register_numbered}
+use Rattle.smm_base.specs.Register.{register_numbered}
 use Rattle.save_state_map.specs.Images.{ImageContents}
 use Rattle.cpu_table.specs.declared.handlers.HandlerDef.{HandlerDef}
 use Rattle.cpu_table.specs.declared.handlers.OpDef.{OpDef}
@@ -98,11 +98,10 @@ are_built_handlers [] = true
 are_built_handlers (handler ∷ []) = is_built_handler handler
 are_built_handlers _ = false
 
--- one processor, elected, traditional, without an area of its own for save states, one prompt wave with a walk over the
--- root handlers, and one such handler or none
+-- one processor, elected, traditional, one prompt wave with a walk over the root handlers, and one such handler or none
 abbrev pub is_built : SetupData → Bool
 is_built setup =
-    setup.processors == 1 && is_elected setup.policy && is_traditional setup.mode && is_none setup.smram && is_one_wave setup.waves && are_built_handlers setup.handlers
+    setup.processors == 1 && is_elected setup.policy && is_traditional setup.mode && is_one_wave setup.waves && are_built_handlers setup.handlers
 
 -- there is an image for each processor, of the setup's kind
 pub record AreImagesOf (setup : SetupData) (images : List ImageContents) : Type 0 where

@@ -1,8 +1,8 @@
 -- The world, one step of an actor in it, and the replay of a schedule.
-use Rattle.std.specs.Prelude.{ℕ, Bool, List, [], ◌∷◌, ◌++◌, slice_index_or, slice_get, slice_set, replicate, map, Option, Some, None, is_none}
+use Rattle.std.specs.Prelude.{ℕ, Bool, List, [], ◌∷◌, ◌++◌, slice_index_or, slice_get, slice_set, replicate, map, zip, Option, Some, None, is_none}
 use Rattle.std.specs.Option.{option_map}
 use Rattle.save_state_map.specs.Images.{ImageContents}
-use Rattle.cpu_regs.specs.Registers.{loaded}
+use Rattle.cpu_regs.specs.Registers.{Registers}
 use Rattle.std.specs.List.{list_all}
 use Rattle.sync_words.specs.Access.{applied}
 use Rattle.sync_words.specs.declared.word.WordId.{WordId}
@@ -158,20 +158,20 @@ abbrev pub world_after : Platform → World → List ℕ → World
 world_after p w [] = w
 world_after p w (a ∷ rest) = world_after p (step p w a).1 rest
 
--- where the chipset begins, and a processor with its image
+-- where the chipset begins, and a processor with its registers and its image
 abbrev pub first_seat : Row → ℕ → Option Cpu → Seat
 first_seat r w cpu = record { row = Some r; visits = 0; source = 0; inside = 0; wave = w; blocked = 0; chair = None; cpu = cpu }
 
-abbrev pub first_cpu : ImageContents → Cpu
-first_cpu m = record { registers = loaded m; image = m; last = m }
+abbrev pub first_cpu : Registers → ImageContents → Cpu
+first_cpu registers m = record { registers = registers; image = m; last = m }
 
--- the world before any event, with an image for each processor: the chair lies on the word `bsp`
-abbrev pub start : Platform → List ImageContents → World
-start p images =
+-- the world before any event, with registers and an image for each processor: the chair lies on the word `bsp`
+abbrev pub start : Platform → List Registers → List ImageContents → World
+start p registers images =
     record {
       words = first_words p.processors;
       chair = Some (record { steps = [] });
-      seats = map (λ m. first_seat AwaitSmi 0 (Some (first_cpu m))) images ++ first_seat AnnounceBlocked 1 None ∷ [];
+      seats = map (λ x. first_seat AwaitSmi 0 (Some (first_cpu x.0 x.1))) (zip registers images) ++ first_seat AnnounceBlocked 1 None ∷ [];
     }
 
 -- a replay on a platform as far as it has come, with room for so many events
@@ -182,12 +182,12 @@ pub record Replay : Type 0 where
   pub room : ℕ
 
 -- The replay of a schedule: its events ..
-abbrev pub replay_events : Platform → List ImageContents → List ℕ → List Event
-replay_events p images schedule = events_from p (start p images) schedule
+abbrev pub replay_events : Platform → List Registers → List ImageContents → List ℕ → List Event
+replay_events p registers images schedule = events_from p (start p registers images) schedule
 
 -- .. and the world that it leaves
-abbrev pub replay_world : Platform → List ImageContents → List ℕ → World
-replay_world p images schedule = world_after p (start p images) schedule
+abbrev pub replay_world : Platform → List Registers → List ImageContents → List ℕ → World
+replay_world p registers images schedule = world_after p (start p registers images) schedule
 
 -- the image that a processor last resumed from, or its first
 abbrev pub last_of : Option Seat → Option ImageContents

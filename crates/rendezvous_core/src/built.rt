@@ -50,15 +50,14 @@ fn are_built_handlers(handlers: &[HandlerDef]) -> bool
 }
 
 /// Does the replay play this setup? It plays those of one processor with the policy `elected` and
-/// the traditional mode, with no area for save states, one prompt wave with a walk over the root
-/// handlers, and no handler or one on the root list that only writes registers.
+/// the traditional mode, one prompt wave with a walk over the root handlers, and no handler or one
+/// on the root list that only writes registers.
 pub fn is_built(setup: &Setup) -> bool
     ensures { result ≡ is_built (data_of setup.now) }
 {
     setup.processors == 1
         && matches!(setup.policy, Policy::Elected)
         && matches!(setup.mode, Mode::Traditional)
-        && setup.smram.is_none()
         && is_one_wave(setup.waves.as_slice())
         && are_built_handlers(setup.handlers.as_slice())
 }

@@ -48,7 +48,7 @@ impl Course {
         ensures { IfOk result (λ course. course ≡ platform_of (data_of setup.now)) }
     {
         Ok(Course {
-            setup: setup.copy(alloc)?,
+            setup: setup.copy()?,
             steps: list_steps(alloc, setup)?,
         })
     }

@@ -34,12 +34,13 @@ impl Model for Cpu {
 }
 
 impl Cpu {
-    /// A processor with the registers that its image holds.
-    pub fn new(image: &Image) -> Self
-        ensures { result ≡ first_cpu image.now }
+    /// A processor with these registers and this image.
+    pub fn new(registers: Regs, image: &Image) -> Self
+        requires { registers.kind ≡ image.now.kind }
+        ensures { result ≡ first_cpu registers image.now }
     {
         Cpu {
-            registers: Regs::of(image),
+            registers,
             image: *image,
             last: *image,
         }

@@ -12,6 +12,7 @@ mod phase;
 mod schedule;
 mod seat;
 mod serving;
+mod starting;
 mod stepped;
 mod turn;
 mod words;
@@ -23,6 +24,7 @@ pub use law::every_schedule;
 pub use phase::Phase;
 pub use schedule::replay;
 pub use serving::{Operation, ServingStep};
+pub use starting::start_fault;
 pub use stepped::Stepped;
 pub use world::World;
 

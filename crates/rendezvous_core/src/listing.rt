@@ -11,10 +11,9 @@ ghost use Rattle.rendezvous_core.specs.Setups.{operand_value, operation_of, hand
 
 use crate::serving::{Operation, ServingStep};
 use cpu_table::{HandlerDef, OpDef, Operand, Setup};
-use save_state_access::register_numbered;
 use smm_base::NoMemory;
 use std::alloc::Global;
-use sync_words::{HandlerType, Label, Status};
+use sync_words::{HandlerType, Label, Register, Status};
 
 /// The number that an operand stands for. Nothing changes a variable, and each begins as 0.
 fn operand_value(operand: Operand) -> u64
@@ -39,7 +38,7 @@ fn operation_of(definition: &OpDef) -> Option<Operation>
         } => {
             let value = operand_value(*value);
             let width = u32::from(*width);
-            register_numbered(*reg).map(|register| Operation {
+            Register::numbered(*reg).map(|register| Operation {
                 cpu: *cpu,
                 register,
                 width,

@@ -1,6 +1,5 @@
-ghost use Rattle.std.specs.Prelude.{◌≡◌, ◌≤◌, ◌&&◌, All, IfOk, IsTrue, length, nat_le};
-ghost use Rattle.std.specs.List.{list_all};
-ghost use Rattle.cpu_table.specs.Distinct.{are_distinct_numbers};
+ghost use Rattle.std.specs.Prelude.{◌≡◌, ◌<◌, ◌≤◌, ◌&&◌, All, IfOk, IsTrue, eqb, length, nat_le};
+ghost use Rattle.std.specs.List.{IsDistinct, list_all};
 ghost use Rattle.cpu_table.specs.Ranges.{op_fits, handler_fits, waves_fit, wave_fits, handlers_fit, procedures_fit, causes_fit};
 
 use crate::{is_built, replay};
@@ -16,7 +15,8 @@ use sync_words::{Event, Label};
 
 fn ids(alloc: Global) -> Result<CpuTable, NoMemory>
     ensures length { IfOk result (λ ids. length ids ≡ 1) }
-    ensures distinct { IfOk result (λ ids. IsTrue (are_distinct_numbers ids)) }
+    ensures distinct { IfOk result (λ ids. IsDistinct eqb ids) }
+    ensures small { IfOk result (λ ids. All (λ id. id < 9223372036854775808) ids) }
 {
     match CpuTable::new(alloc, &[0]) {
         Ok(table) => Ok(table),

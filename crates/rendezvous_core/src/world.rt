@@ -1,18 +1,22 @@
-ghost use Rattle.std.specs.Prelude.{◌≡◌, ◌<◌, ◌≤◌, ◌++◌, [], ◌∷◌, length, IfOk, IsTrue, Some};
+ghost use Rattle.std.specs.Prelude.{◌≡◌, ◌<◌, ◌≤◌, ◌++◌, [], ◌∷◌, length, IfOk, IfErr, OnOk, IsTrue, None, Some};
 ghost use Rattle.cpu_table.specs.Data.{data_of};
 ghost use Rattle.rendezvous_core.specs.Setups.{platform_of, is_built, AreImagesOf};
+ghost use Rattle.rendezvous_core.specs.Starts.{first_registers_of, first_registers, start_refusal, IsRefusedBy};
 ghost use Rattle.rendezvous_core.specs.Worlds.{start, step, with_event, is_complete, last_image, MakesNoEvent};
 
 use crate::chair::Chair;
 use crate::course::Course;
 use crate::cpu::Cpu;
-use crate::error::WorldError;
+use crate::error::{WorldError, not_relocated};
 use crate::seat::{PROCESSORS, Seat};
+use crate::starting::{image_fault, only_image, start_registers};
 use crate::stepped::Stepped;
 use crate::turn::take_turn;
 use crate::words::Words;
+use cpu_regs::Regs;
 use cpu_table::Setup;
 use save_state_map::Image;
+use smm_base::NoMemory;
 use std::alloc::Global;
 use std::marker::Model;
 use sync_words::{Event, Row};
@@ -41,17 +45,72 @@ impl Model for World {
     ghost invariant = { IsWorld };
 }
 
-/// The one image of a platform that is built.
-fn only_image(images: &[Image]) -> &Image
-    requires { length images.now ≡ 1 }
-    ensures { images.now ≡ result.now ∷ [] }
-{
-    &images[0]
-}
-
 impl World {
+    /// The start on the platform of a setup that is built, of its one processor with these registers
+    /// and this image.
+    fn with_registers(
+        alloc: Global,
+        setup: &Setup,
+        registers: Regs,
+        image: &Image,
+        room: usize,
+    ) -> Result<World, NoMemory>
+        requires built { IsTrue (is_built (data_of setup.now)) }
+        requires kind { registers.kind ≡ image.now.kind }
+        ensures { IfOk result (λ w. w ≡ record { platform = platform_of (data_of setup.now); world = start (platform_of (data_of setup.now)) (registers ∷ []) (image.now ∷ []); events = []; room = room }) }
+    {
+        let course = Course::new(alloc, setup)?;
+        Ok(World {
+            course,
+            words: Words::start(alloc)?,
+            lying: Some(Chair::Idle),
+            processor: Seat::new(Row::AwaitSmi, 0, Some(Cpu::new(registers, image))),
+            chipset: Seat::new(Row::AnnounceBlocked, 1, None),
+            events: Vec::with_capacity(alloc, room)?,
+            room,
+        })
+    }
+
+    /// The same where its relocation isn't refused.
+    fn relocated(
+        alloc: Global,
+        setup: &Setup,
+        image: &Image,
+        room: usize,
+    ) -> Result<World, NoMemory>
+        requires built { IsTrue (is_built (data_of setup.now)) }
+        requires relocatable { start_refusal (data_of setup.now) (image.now ∷ []) ≡ None }
+        ensures { IfOk result (λ w. w ≡ record { platform = platform_of (data_of setup.now); world = start (platform_of (data_of setup.now)) (first_registers_of (data_of setup.now) 0 image.now ∷ []) (image.now ∷ []); events = []; room = room }) }
+    {
+        let registers = start_registers(alloc, setup, image)?;
+        World::with_registers(alloc, setup, registers, image, room)
+    }
+
+    /// The start with one image. A refused relocation is found before any memory is taken.
+    fn with_image(
+        alloc: Global,
+        setup: &Setup,
+        image: &Image,
+        room: usize,
+    ) -> Result<World, WorldError>
+        requires { IsTrue (is_built (data_of setup.now)) }
+        ensures start { IfOk result (λ w. w ≡ record { platform = platform_of (data_of setup.now); world = start (platform_of (data_of setup.now)) (first_registers_of (data_of setup.now) 0 image.now ∷ []) (image.now ∷ []); events = []; room = room }) }
+        ensures relocatable { OnOk result (start_refusal (data_of setup.now) (image.now ∷ []) ≡ None) }
+        ensures refused { IfErr result (IsRefusedBy (start_refusal (data_of setup.now) (image.now ∷ []))) }
+    {
+        if let Some(error) = image_fault(setup, image) {
+            return Err(not_relocated(error));
+        }
+        match World::relocated(alloc, setup, image, room) {
+            Ok(world) => Ok(world),
+            Err(NoMemory) => Err(WorldError::NoMemory),
+        }
+    }
+
     /// The start on the platform of a setup that is built, from an image for each processor, of the
-    /// setup's kind. There is room for so many events. All memory that the replay uses is taken here.
+    /// setup's kind. Where the setup has an area for save states, the processors are relocated to it:
+    /// their registers, while their images stay. There is room for so many events. A relocation
+    /// that is refused is found first; then all memory that the replay uses is taken.
     pub fn new(
         alloc: Global,
         setup: &Setup,
@@ -60,19 +119,11 @@ impl World {
     ) -> Result<World, WorldError>
         requires built { IsTrue (is_built (data_of setup.now)) }
         requires images { AreImagesOf (data_of setup.now) images.now.items }
-        ensures start { IfOk result (λ w. w ≡ record { platform = platform_of (data_of setup.now); world = start (platform_of (data_of setup.now)) images.now.items; events = []; room = room }) }
+        ensures start { IfOk result (λ w. w ≡ record { platform = platform_of (data_of setup.now); world = start (platform_of (data_of setup.now)) (first_registers (data_of setup.now) images.now.items) images.now.items; events = []; room = room }) }
+        ensures relocatable { OnOk result (start_refusal (data_of setup.now) images.now.items ≡ None) }
+        ensures refused { IfErr result (IsRefusedBy (start_refusal (data_of setup.now) images.now.items)) }
     {
-        let course = Course::new(alloc, setup)?;
-        let image = only_image(images.as_slice());
-        Ok(World {
-            course,
-            words: Words::start(alloc)?,
-            lying: Some(Chair::Idle),
-            processor: Seat::new(Row::AwaitSmi, 0, Some(Cpu::new(image))),
-            chipset: Seat::new(Row::AnnounceBlocked, 1, None),
-            events: Vec::with_capacity(alloc, room)?,
-            room,
-        })
+        World::with_image(alloc, setup, only_image(images.as_slice()), room)
     }
 
     fn step_processor(&mut self) -> Stepped

@@ -1,22 +1,13 @@
--- Registers and their numbers.
+-- The widths of registers.
 use Rattle.std.proofs.Common.{◌≡◌, ℕ, ◌&&◌, List, Option, Some, None, option_map, is_some, cond, refl}
 use Rattle.byteorder.specs.Endian.{little_bytes}
 use Rattle.save_state_map.specs.declared.field.Place.{Place}
 use Rattle.save_state_map.specs.Fields.{field_place}
 use Rattle.save_state_map.specs.Images.{ImageContents, number_at}
-use Rattle.smm_base.specs.declared.registers.Register.{Register}
-use Rattle.smm_base.specs.declared.registers.Register.TheVariants.{GdtBase}
-use Rattle.smm_base.specs.Register.{register_number}
 use Rattle.save_state_access.specs.declared.table.Parts.{Parts}
 use Rattle.save_state_access.specs.declared.table.Parts.TheVariants.{Missing, One, Pair}
-use Rattle.save_state_access.specs.Table.{register_numbered}
 use Rattle.save_state_access.specs.Width.{parts_width}
 use Rattle.save_state_access.specs.Reading.{halves, register_bytes}
-
--- each register is found by its number
-pub found_by_number : (register : Register) → register_numbered (register_number register) ≡ Some register
-found_by_number GdtBase = refl
-found_by_number _ = refl
 
 -- the bytes of a field at a place
 abbrev bytes_there : ImageContents → Option Place → Option (ℕ × List ℕ)

@@ -1,6 +1,6 @@
 -- What was written into a register is read from it.
 use Rattle.std.proofs.Common.{◌≡◌, ℕ, ◌+◌, ◌<◌, ◌≤◌, Bool, true, leb, ◌⊎◌, inl, inr, List, ◌++◌, length, take, drop, Option, Some, None, option_map, refl, sym, ap, subst, ◌∙◌, append_assoc, arith}
-use Rattle.std.specs.Prelude.{All, IfSome}
+use Rattle.std.specs.Prelude.{All, IfSome, IsSomeAnd}
 use Rattle.std.specs.List.{list_all}
 use Rattle.std.proofs.lemmas.List.{length-take-le, length-drop, length-append, take-take, take_at, drop_at, get_or-drop, get_or_past}
 use Rattle.std.proofs.lemmas.Bool.{cases_lt, leb-true}
@@ -61,9 +61,9 @@ width_bound kind f p there =
 abbrev placed : List ℕ → Option Place → Option (ℕ × List ℕ)
 placed bytes o = option_map (λ place. (place.width, little_bytes 8 (number_at place bytes))) o
 
-read_at : (o : Option Place) (new m : List ℕ) → IfSome o (λ p. (p.width ≤ 8) × (p.offset + p.width ≤ length m)) → IfSome (placed m o) (λ r. length new ≤ r.0) → IsBytes new → IsBytes m
-    → IfSome (placed (with_bytes o new m) o) (λ r. take (length new) r.1 ≡ new)
-read_at None new m within fits each all = tt
+read_at : (o : Option Place) (new m : List ℕ) → IfSome o (λ p. (p.width ≤ 8) × (p.offset + p.width ≤ length m)) → IsSomeAnd (placed m o) (λ r. length new ≤ r.0) → IsBytes new → IsBytes m
+    → IsSomeAnd (placed (with_bytes o new m) o) (λ r. take (length new) r.1 ≡ new)
+read_at None new m within fits each all = absurd fits
 read_at (Some p) new m within fits each all = put_then_read p new m within.0 fits within.1 each all
 
 within_at : (m : ImageContents) (f : Field) → IsImage m → IfSome (field_place m.kind f) (λ p. (p.width ≤ 8) × (p.offset + p.width ≤ length m.bytes))
@@ -75,8 +75,8 @@ within_at m f image =
     ]
 
 -- the low bytes that were written are the low bytes that are read
-pub written_is_read : (m : ImageContents) (parts : Parts) (new : List ℕ) → IsImage m → IsBytes new → is_written parts ≡ true → IfSome (register_bytes m parts) (λ register. length new ≤ register.0)
-    → IfSome (register_bytes (with_low_bytes m parts new) parts) (λ register. take (length new) register.1 ≡ new)
+pub written_is_read : (m : ImageContents) (parts : Parts) (new : List ℕ) → IsImage m → IsBytes new → is_written parts ≡ true → IsSomeAnd (register_bytes m parts) (λ register. length new ≤ register.0)
+    → IsSomeAnd (register_bytes (with_low_bytes m parts new) parts) (λ register. take (length new) register.1 ≡ new)
 written_is_read m Missing new image each can fits = absurd cc
 written_is_read m (One f) new image each can fits = read_at (field_place m.kind f) new m.bytes (within_at m f image) fits each image.each
 written_is_read m (Pair low high) new image each can fits = absurd cc

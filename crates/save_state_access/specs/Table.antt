@@ -1,16 +1,11 @@
--- The registers of the service: their numbers, and the fields that they are made of.
-use Rattle.std.specs.Prelude.{ℕ, ◌==◌, Option, Some, None, find}
+-- The registers of the service: the fields that they are made of.
+use Rattle.std.specs.Prelude.{ℕ, Option, Some, None}
 use Rattle.smm_base.specs.declared.registers.Register.{Register}
 use Rattle.smm_base.specs.declared.registers.Register.TheVariants as registers
-use Rattle.smm_base.specs.Register.{register_number}
+use Rattle.smm_base.specs.Register.{register_numbered}
 use Rattle.save_state_map.specs.declared.field.Field.TheVariants as fields
 use Rattle.save_state_access.specs.declared.table.Parts.{Parts}
 use Rattle.save_state_access.specs.declared.table.Parts.TheVariants.{Missing, One, Pair}
-use Rattle.save_state_access.specs.declared.table.TheConstants.{REGISTERS}
-
--- the register that has a number (UEFI PI Specification, Volume 4; 1024 and 1025 are this project's own)
-abbrev pub register_numbered : ℕ → Option Register
-register_numbered number = find (λ register. register_number register == number) REGISTERS
 
 -- the fields that a register is made of, in each map that has them (this project's own choice)
 abbrev pub parts_of : Register → Parts

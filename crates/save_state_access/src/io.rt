@@ -5,7 +5,7 @@ ghost use Rattle.save_state_access.specs.IoInfo.{number_in, width_code, io_told,
 use save_state_map::{Field, Image};
 
 /// The I/O instruction that an interrupt came at, as the register IO tells of it.
-#[derive(Clone, Copy, Debug, PartialEq, Eq)]
+#[derive(Clone, Copy, PartialEq, Eq)]
 pub struct IoInfo {
     /// The low bytes of RAX or EAX, as many as the instruction's length.
     pub value: u64,

@@ -7,9 +7,7 @@ mod service;
 mod table;
 
 pub use io::{IoInfo, io_info};
-pub use laws::register_laws;
+pub use laws::service_laws;
 pub use service::{read_register, write_register};
-pub use table::{Parts, REGISTERS, own_width, parts_of, register_numbered};
-
-#[cfg(test)]
-mod tests;
+pub use smm_base::{Register, Status};
+pub use table::{Parts, own_width, parts_of};

@@ -1,12 +1,12 @@
 ghost use Rattle.std.specs.Prelude.{◌≡◌, ◌≤◌, IfSome};
-ghost use Rattle.save_state_access.specs.Table.{register_numbered, parts_of, parts_numbered};
+ghost use Rattle.save_state_access.specs.Table.{parts_of, parts_numbered};
 ghost use Rattle.save_state_access.specs.Width.{parts_width, own_width};
 
 use save_state_map::Field;
 use smm_base::{MapKind, Register};
 
 /// The fields of an image that a register is made of.
-#[derive(Clone, Copy, Debug, PartialEq, Eq)]
+#[derive(Clone, Copy, PartialEq, Eq)]
 pub enum Parts {
     /// No field of either map.
     Missing,
@@ -14,63 +14,6 @@ pub enum Parts {
     One(Field),
     /// Two fields of four bytes: the low half, and the high half.
     Pair(Field, Field),
-}
-
-/// Each register once.
-pub static REGISTERS: [Register; 43] = [
-    Register::GdtBase,
-    Register::IdtBase,
-    Register::LdtBase,
-    Register::GdtLimit,
-    Register::IdtLimit,
-    Register::LdtLimit,
-    Register::LdtInfo,
-    Register::Es,
-    Register::Cs,
-    Register::Ss,
-    Register::Ds,
-    Register::Fs,
-    Register::Gs,
-    Register::LdtrSel,
-    Register::TrSel,
-    Register::Dr7,
-    Register::Dr6,
-    Register::R8,
-    Register::R9,
-    Register::R10,
-    Register::R11,
-    Register::R12,
-    Register::R13,
-    Register::R14,
-    Register::R15,
-    Register::Rax,
-    Register::Rbx,
-    Register::Rcx,
-    Register::Rdx,
-    Register::Rsp,
-    Register::Rbp,
-    Register::Rsi,
-    Register::Rdi,
-    Register::Rip,
-    Register::Rflags,
-    Register::Cr0,
-    Register::Cr3,
-    Register::Cr4,
-    Register::Io,
-    Register::Lma,
-    Register::ProcessorId,
-    Register::AutoHalt,
-    Register::IoRestart,
-];
-
-/// The register with a number, if there is one.
-pub fn register_numbered(number: u32) -> Option<Register>
-    ensures { result ≡ register_numbered number }
-{
-    REGISTERS
-        .iter()
-        .copied()
-        .find(|register| register.number() == number)
 }
 
 /// The fields that a register is made of. The table is this project's own.
@@ -128,7 +71,7 @@ pub fn parts_of(register: Register) -> Parts
 pub(crate) fn parts_numbered(number: u32) -> Parts
     ensures { result ≡ parts_numbered number }
 {
-    match register_numbered(number) {
+    match Register::numbered(number) {
         Some(register) => parts_of(register),
         None => Parts::Missing,
     }

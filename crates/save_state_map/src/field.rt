@@ -99,7 +99,7 @@ pub enum Field {
 }
 
 /// Where a field stands in an image.
-#[derive(Clone, Copy, Debug, PartialEq, Eq)]
+#[derive(Clone, Copy, PartialEq, Eq)]
 pub struct Place {
     /// The field's first byte, counted from the image's first byte.
     pub offset: usize,

@@ -8,6 +8,4 @@ mod laws;
 pub use field::{FIELDS, Field, Place};
 pub use image::{Image, ImageError, image_size};
 pub use laws::field_laws;
-
-#[cfg(test)]
-mod tests;
+pub use smm_base::MapKind;

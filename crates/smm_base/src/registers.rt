@@ -1,4 +1,4 @@
-ghost use Rattle.std.specs.Prelude.{◌≡◌, ℕ, IfSome, Some};
+ghost use Rattle.std.specs.Prelude.{◌≡◌, ℕ, List, Some, IfSome};
 ghost use Rattle.smm_base.specs.Register.{register_number, register_text, register_named, register_numbered};
 ghost use Rattle.smm_base.specs.declared.registers.Register.{Register as RegisterSpec};
 
@@ -249,6 +249,10 @@ impl fmt::Display for Register {
 
 /// The laws of the list of registers. It does nothing when it runs.
 pub fn register_laws()
+    // What is found has the number, or the name.
+    ensures numbered { (number : ℕ) → IfSome (register_numbered number) (λ register. register_number register ≡ number) }
+    ensures named { (text : List ℕ) → IfSome (register_named text) (λ register. register_text register ≡ text) }
+
     // Each register is found by its number, so no number stands for two of them.
     ensures numbers { (register : RegisterSpec) → register_numbered (register_number register) ≡ Some register }
 

@@ -2,13 +2,16 @@ ghost use Rattle.std.specs.Prelude.{◌≡◌, ◌≤◌, Some};
 ghost use Rattle.sync_words.specs.Access.{applied, IsWithin, LeavesWord};
 ghost use Rattle.sync_words.specs.Texts.{access_text};
 
+use crate::signal::{DELIVERABLE, HELD, INSIDE, NO_SIGNAL, OFF};
 use std::fmt;
 
 /// The greatest number that a word holds. In the counter it says that the session is closed, and
 /// in the word of the boot processor that there is none.
 pub const LOCKED: u32 = 16_777_215;
 
-/// What an actor does to a word. The numbers are at most [`LOCKED`], that of `Raise` at most 4.
+/// What an actor does to a word. The numbers are at most [`LOCKED`], that of `Raise` is a signal. The accesses
+/// are the project's own; those of a semaphore with its locked value follow EDK II (PiSmmCpuDxeSmm,
+/// `WaitForSemaphore`, `ReleaseSemaphore`, `LockdownSemaphore`).
 #[derive(Clone, Copy, Debug, PartialEq, Eq)]
 pub enum Access {
     /// Reads the word.
@@ -63,9 +66,11 @@ impl fmt::Display for Access {
 }
 
 /// What an access does to the number that it finds.
-#[derive(Clone, Copy, Debug, PartialEq, Eq)]
+#[derive(Clone, Copy, PartialEq, Eq)]
 pub enum Applied {
+    /// The word has a new number.
     Changed { new: u32, found: u32 },
+    /// It was accepted, and the word stays.
     Same { found: u32 },
     /// The actor has to wait, and the word stays.
     NotReady { found: u32 },
@@ -79,7 +84,7 @@ pub fn apply(value: u32, access: Access) -> Applied
     ensures fits { LeavesWord result }
 {
     let found = value;
-    let signal = value % 8;
+    let signal = value % INSIDE;
     match access {
         Access::Look => Applied::Same { found },
         Access::Put(new) => Applied::Changed { new, found },
@@ -102,21 +107,21 @@ pub fn apply(value: u32, access: Access) -> Applied
         Access::Await(_, new) => Applied::Changed { new, found },
         Access::Seek(below) if value < below => Applied::Same { found },
         Access::Seek(_) => Applied::NotReady { found },
-        Access::Signal if signal != 0 && signal != 2 => Applied::Same { found },
+        Access::Signal if signal != NO_SIGNAL && signal != HELD => Applied::Same { found },
         Access::Signal => Applied::Changed {
-            new: value - signal + 1,
+            new: value - signal + DELIVERABLE,
             found,
         },
-        Access::TakeSmi if value == 4 => Applied::Same { found },
-        Access::TakeSmi if value == 1 => Applied::Changed { new: 8, found },
+        Access::TakeSmi if value == OFF => Applied::Same { found },
+        Access::TakeSmi if value == DELIVERABLE => Applied::Changed { new: INSIDE, found },
         Access::TakeSmi => Applied::NotReady { found },
-        Access::ClearSmi if value < 8 => Applied::Same { found },
+        Access::ClearSmi if value < INSIDE => Applied::Same { found },
         Access::ClearSmi => Applied::Changed {
-            new: value - 8,
+            new: value - INSIDE,
             found,
         },
-        Access::Raise(_) if signal == 4 => Applied::Same { found },
-        Access::Raise(_) if signal == 1 => Applied::NotReady { found },
+        Access::Raise(_) if signal == OFF => Applied::Same { found },
+        Access::Raise(_) if signal == DELIVERABLE => Applied::NotReady { found },
         Access::Raise(to) => Applied::Changed {
             new: value - signal + to,
             found,

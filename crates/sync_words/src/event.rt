@@ -13,15 +13,17 @@ pub struct Event {
     pub actor: u16,
     pub word: WordId,
     pub access: Access,
-    /// The number that the word had.
+    /// The number that the word had, at most [`crate::LOCKED`].
     pub found: u32,
+    /// What it says of the actor's course.
     pub label: Label,
 }
 
 /// What changes hands where an access changes its word: a desk by its processor's number, or the
 /// chair by the number of processors.
-#[derive(Clone, Copy, Debug, PartialEq, Eq)]
+#[derive(Clone, Copy, PartialEq, Eq)]
 pub enum Hand {
+    /// Nothing changes hands.
     Nothing,
     /// The actor lays it on the word.
     Give(u16),
@@ -30,8 +32,9 @@ pub enum Hand {
 }
 
 /// What an actor wants to do next.
-#[derive(Clone, Copy, Debug, PartialEq, Eq)]
+#[derive(Clone, Copy, PartialEq, Eq)]
 pub enum Want {
+    /// An access to a word, with what changes hands at it.
     Access {
         word: WordId,
         access: Access,

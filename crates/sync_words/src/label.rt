@@ -37,44 +37,62 @@ impl fmt::Display for StartRefusal {
     }
 }
 
-/// What an event says.
+/// What an event says. A number is that of the label's text; `cpu` is a processor's number, a handler and a
+/// procedure stand by their places in the platform file, jobs are numbered from 1 in the session.
 #[derive(Clone, Copy, Debug, PartialEq, Eq)]
 pub enum Label {
     /// Nothing: printed as `-`.
     Silent,
     /// The chipset announced how many processors the next wave blocks.
     Excepted(u32),
-    /// The chipset announced the wave.
+    /// The chipset announced the wave with this number, from 1.
     Wave(u32),
+    /// A processor took its interrupt and saved its state: a visit begins.
     Enter,
     /// The processor turned back, since no wave asks for it.
     Turn,
+    /// The processor counted itself in.
     Arrive,
     /// The processor came after the session was closed.
     Late,
+    /// The processor became the boot processor: a session begins.
     Elect,
+    /// The boot processor took the wave with this number, 0 where there is none.
     Served(u32),
+    /// The boot processor read how many processors the wave announced as blocked.
     Gather(u32),
+    /// With this many counted in, the boot processor waits for no more.
     Ready(u32),
+    /// The time of waiting ran out: the first round, or the second.
     Expire(u32),
+    /// A processor gave up waiting for the boot processor, and took itself from the count.
     Quit,
+    /// A processor that isn't the boot processor (AP) reported, and gave its desk.
     Report,
+    /// The boot processor locked the counter, which had this number.
     Close(u32),
+    /// Serving of the wave with this number begins, 0 where there is none.
     Begin(u32),
+    /// A walk over the handlers of a list begins (UEFI PI Volume 4, `MmiManage`).
     Manage(HandlerType),
     /// A walk that would have been the fifth level.
     Deep(HandlerType),
-    /// A handler by its place in the platform file.
+    /// A handler by its place in the platform file is called.
     Call(u16),
+    /// The handler answered.
     Return {
         handler: u16,
         status: Status,
     },
+    /// The walk has this answer.
     Answer(Status),
+    /// A variable, 0 to 7, was given a value.
     Set {
         variable: u8,
         value: u64,
     },
+    /// A saved register was read (UEFI PI Volume 4, `EFI_MM_CPU_PROTOCOL.ReadSaveState`): the first 8 bytes of
+    /// `width`, or 0.
     Read {
         cpu: u16,
         register: Register,
@@ -82,6 +100,7 @@ pub enum Label {
         value: u64,
         status: Status,
     },
+    /// A saved register was written (`EFI_MM_CPU_PROTOCOL.WriteSaveState`): the low `width` bytes of the value.
     Write {
         cpu: u16,
         register: Register,
@@ -89,55 +108,72 @@ pub enum Label {
         value: u64,
         status: Status,
     },
+    /// It was asked whether a launched job is done.
     Check {
         job: u64,
         status: Status,
     },
+    /// A launched job was waited for; `result_value` is its result, or 0.
     Wait {
         job: u64,
         result_value: u64,
         status: Status,
     },
+    /// A block of so many bytes was asked for; `place` is its address, or 0.
     Alloc {
         size: u64,
         place: u64,
         status: Status,
     },
+    /// The block at an address was given back.
     Free {
         place: u64,
         status: Status,
     },
+    /// A handler was registered; `serial` is the number of the registration, or 0.
     Register {
         handler: u16,
         serial: u32,
         status: Status,
     },
+    /// A registration was ended.
     Unregister {
         handle: u64,
         status: Status,
     },
+    /// The start of a procedure was refused.
     Refuse {
         cpu: u16,
         cause: StartRefusal,
     },
+    /// A job was given to a processor: the procedure with its argument.
     Start {
         cpu: u16,
         job: u32,
         procedure: u16,
         arg: u64,
     },
+    /// A processor ran its job.
     Run {
         job: u32,
         result_value: u64,
         status: Status,
     },
+    /// The boot processor took a processor's desk, whose job was run.
     Collect(u16),
+    /// The session has used all its units of serving.
     Spent,
+    /// The handlers are done.
     Done,
+    /// The boot processor let a processor go on its way out.
     Release(u16),
+    /// A processor that isn't the boot processor leaves the session.
     Depart,
+    /// The session ends.
     End,
+    /// The processor loaded its state, and goes on so.
     Resume(After),
+    /// The actor is off, and does nothing more.
     Off,
 }
 

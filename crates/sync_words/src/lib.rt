@@ -5,11 +5,13 @@ mod access;
 mod event;
 mod label;
 mod row;
+mod signal;
 mod word;
 
 pub use access::{Access, Applied, LOCKED, apply};
 pub use event::{Event, EventLine, Hand, Want};
 pub use label::{Label, StartRefusal};
 pub use row::Row;
+pub use signal::{BLOCKED, DELIVERABLE, HELD, INSIDE, NO_SIGNAL, OFF};
 pub use smm_base::{After, HandlerType, Register, Status};
 pub use word::WordId;

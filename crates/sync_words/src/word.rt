@@ -18,8 +18,8 @@ pub enum WordId {
     Source,
     /// How many processors the wave announced as blocked.
     Except,
-    /// The interrupt signal of a processor: 0 none, 1 deliverable, 2 held until an IPI, 3 blocked,
-    /// 4 off; plus 8 while the processor is inside.
+    /// The interrupt signal of a processor ([`crate::DELIVERABLE`] and so on), plus [`crate::INSIDE`] while the
+    /// processor is inside.
     Pend(u16),
     /// 0, 1 where the processor has reported, 2 where its desk was taken then.
     Present(u16),

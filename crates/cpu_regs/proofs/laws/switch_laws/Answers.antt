@@ -15,3 +15,6 @@ returns-clause-saved_image c = λ registers cause m image. saving.image_stays (e
 
 pub returns-clause-saved_kind : goal.returns-clause-saved_kind
 returns-clause-saved_kind c = λ registers cause m. saving.kind_stays (entered registers cause) FIELDS m
+
+pub returns-clause-loaded_fields : goal.returns-clause-loaded_fields
+returns-clause-loaded_fields c = loading.loaded_fields

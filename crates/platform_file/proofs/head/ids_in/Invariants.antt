@@ -1,5 +1,5 @@
-use Rattle.std.proofs.Common.{◌≡◌, ◌≤◌, [], map, drop, length, IsTrue}
-use Rattle.cpu_table.specs.Distinct.{are_distinct_numbers}
+use Rattle.std.proofs.Common.{◌≡◌, ◌<◌, ◌≤◌, All, eqb, [], map, drop, length}
+use Rattle.std.specs.List.{IsDistinct}
 use Rattle.toml.specs.View.{view}
 use Rattle.platform_file.specs.Reading.{each}
 use Rattle.platform_file.specs.Head.{id_after}
@@ -9,6 +9,7 @@ abbrev pub invariant-loop-value : goal.invariant-loop-value
 invariant-loop-value l = record {
   count : length l.ids.items ≡ l.value-index;
   within : l.value-index ≤ length l.values;
-  distinct : IsTrue (are_distinct_numbers l.ids.items);
+  distinct : IsDistinct eqb l.ids.items;
+  small : All (λ id. id < 9223372036854775808) l.ids.items;
   so_far : each id_after l.ids.items (map view (drop l.value-index l.values)) ≡ each id_after [] (map view l.values);
 }

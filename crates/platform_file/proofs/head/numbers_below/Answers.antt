@@ -1,6 +1,6 @@
 use Rattle.std.proofs.Common.{◌≡◌, ◌∙◌, ◌++◌, ◌∷◌, [], ap, arith}
 use Rattle.std.specs.List.{range_with_len}
-use Rattle.platform_file.proofs.Growing.{numbers_more, numbers_count, numbers_distinct}
+use Rattle.platform_file.proofs.Growing.{numbers_more, numbers_count, numbers_distinct, numbers_small}
 use Rattle.platform_file.proofs.head.numbers_below.Goals as goal
 
 pub loop-number-preserved : goal.loop-number-preserved
@@ -21,3 +21,6 @@ returns-clause-count c =
 
 pub returns-clause-distinct : goal.returns-clause-distinct
 returns-clause-distinct c = numbers_distinct c.loop-number.numbers.items c.loop-number.number c.loop-number.invariant.so_far
+
+pub returns-clause-small : goal.returns-clause-small
+returns-clause-small c = numbers_small c.loop-number.numbers.items c.loop-number.number 9223372036854775808 (omega (arith, c.loop-number.invariant.within, c.ranges.count)) c.loop-number.invariant.so_far

@@ -5,10 +5,10 @@ use Rattle.rendezvous_core.proofs.KeptKind.{resumed_kind}
 use Rattle.rendezvous_core.proofs.law.every_schedule.Goals as goal
 
 pub returns-clause-run : goal.returns-clause-run
-returns-clause-run c = λ t1 t2 visits ops waves handlers causes image schedule h l. every_run t1 t2 visits ops waves handlers causes image schedule h l
+returns-clause-run c = λ t1 t2 visits ops waves handlers causes registers image schedule h l. every_run t1 t2 visits ops waves handlers causes registers image schedule h l
 
 pub returns-clause-after : goal.returns-clause-after
-returns-clause-after c = λ t1 t2 visits ops waves handlers causes image schedule h l. every_last t1 t2 visits ops waves handlers causes image schedule h l
+returns-clause-after c = λ t1 t2 visits ops waves handlers causes registers image schedule h l. every_last t1 t2 visits ops waves handlers causes registers image schedule h l
 
 pub returns-clause-resumed : goal.returns-clause-resumed
 returns-clause-resumed c = resumed_is_last

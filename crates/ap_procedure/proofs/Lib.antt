@@ -1,0 +1,5 @@
+pub mod JobLemmas
+pub mod KeptLemmas
+pub mod LawLemmas
+pub mod OrderLemmas
+pub mod RisingLemmas

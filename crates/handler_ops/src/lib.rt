@@ -1,0 +1,11 @@
+// What the boot processor does between the beginning of serving and its end: walks over handlers, their operations,
+// and procedures that other processors run. It knows no words and no threads.
+#![tactic(auto)]
+
+mod desk;
+mod laws;
+mod need;
+
+pub use desk::{Desk, Job};
+pub use laws::{serving_lists, standing};
+pub use need::Need;

@@ -1,0 +1,5 @@
+pub mod Examples
+pub mod KeptLemmas
+pub mod LawLemmas
+pub mod OrderLemmas
+pub mod RisingLemmas

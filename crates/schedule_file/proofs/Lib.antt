@@ -1,0 +1,4 @@
+pub mod KnownActors
+pub mod ActorLists
+pub mod PartLemmas
+pub mod DigitLemmas

@@ -1,0 +1,3 @@
+pub mod Schedule
+pub mod Steps
+pub mod Texts

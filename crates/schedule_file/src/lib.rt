@@ -1,0 +1,10 @@
+// Schedules: a text is read as the actors that it names in turn, or refused at its first wrong item.
+#![tactic(auto)]
+
+mod actors;
+mod error;
+mod item;
+mod schedule;
+
+pub use error::ScheduleError;
+pub use schedule::read_schedule;

@@ -1,0 +1,5 @@
+pub mod AreaLemmas
+pub mod Registers
+pub mod Refusals
+pub mod Saving
+pub mod Every

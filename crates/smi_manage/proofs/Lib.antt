@@ -1,0 +1,5 @@
+pub mod AnswerLemmas
+pub mod DueLemmas
+pub mod Examples
+pub mod LiveLemmas
+pub mod WalkLemmas
