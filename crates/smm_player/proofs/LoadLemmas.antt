@@ -16,18 +16,20 @@ use Rattle.image_file.specs.Contents.{images_in}
 use Rattle.cpu_table.specs.Data.{SetupData}
 use Rattle.platform_file.specs.declared.error.PlatformError.{PlatformError}
 use Rattle.platform_file.specs.declared.error.PlatformError.TheVariants as platform
-use Rattle.platform_file.specs.declared.schedule_error.ScheduleError.{ScheduleError}
-use Rattle.platform_file.specs.declared.schedule_error.ScheduleError.TheVariants as schedule
-use Rattle.platform_file.specs.Walk.{platform_of as setup_read}
-use Rattle.platform_file.specs.Schedule.{schedule_of}
+use Rattle.schedule_file.specs.declared.error.ScheduleError.{ScheduleError}
+use Rattle.schedule_file.specs.declared.error.ScheduleError.TheVariants as schedule
+use Rattle.platform_file.specs.Walk.{setup_read}
+use Rattle.schedule_file.specs.Schedule.{schedule_of}
 use Rattle.smm_player.specs.declared.images.ImagesFault.TheVariants as fault
 use Rattle.smm_player.specs.declared.refusal.Refusal.{Refusal}
 use Rattle.smm_player.specs.declared.refusal.Refusal.TheVariants.{Read, TooLong, Platform, Images, Schedule, NotBuilt}
 use Rattle.smm_player.specs.declared.fault.Fault.{Fault}
 use Rattle.smm_player.specs.declared.fault.Fault.TheVariants.{Refused, Write, Save, Memory}
 use Rattle.smm_player.specs.Fault.{platform_fault, images_fault, schedule_fault}
-use Rattle.smm_player.specs.Due.{Finding, and_then, or_refusal, loaded, file_due, if_built, platform_found, kinds_agree, differs, counted, serving, judged, images_found, schedule_found, without, schedule_due, plan_with, IsDue, RefusalCause}
+use Rattle.smm_player.specs.Due.{Finding, and_then, or_refusal, loaded, file_due, if_built, platform_found, kinds_agree, differs, counted, serving, judged, images_found, schedule_found, without, schedule_due, relocated_or, started, plan_with, IsDue, RefusalCause}
 use Rattle.rendezvous_core.specs.Setups.{is_built}
+use Rattle.rendezvous_core.specs.Starts.{start_refusal}
+use Rattle.smbase_reloc.specs.declared.error.RelocError.{RelocError}
 use Rattle.smm_player.specs.declared.command.Step.{Step}
 use Rattle.smm_player.specs.Plan.{plan}
 use Rattle.smm_player.specs.Loading.{IsLoadFault, IsRefusedFor, LoadCause, RefusedReading, StopsReading}
@@ -104,6 +106,7 @@ platform_stops name bytes (platform.Word key) why = elim why [ inl is ↦ absurd
 platform_stops name bytes (platform.Range key number) why = elim why [ inl is ↦ absurd cc | inr read ↦ read_stops name bytes (platform.Range key number) read ]
 platform_stops name bytes (platform.Unknown key) why = elim why [ inl is ↦ absurd cc | inr read ↦ read_stops name bytes (platform.Unknown key) read ]
 platform_stops name bytes (platform.TooLarge events) why = elim why [ inl is ↦ absurd cc | inr read ↦ read_stops name bytes (platform.TooLarge events) read ]
+platform_stops name bytes (platform.Layout error) why = elim why [ inl is ↦ absurd cc | inr read ↦ read_stops name bytes (platform.Layout error) read ]
 platform_stops name bytes platform.NoMemory why = tt
 
 -- what is found by another name
@@ -297,6 +300,19 @@ then_stops first next steady files files' f g a (Err stopped) stay wider due sto
     stop_second first next steady files g a stopped due (wider_stop (next a) files f g stopped wider (subst P stay stops))
 
 -- the plan once the schedule is there
-pub plan_due_with : (names : Step) (setup : SetupData) (images : List ImageContents) (files : Option FileMap) (actors : List ℕ) → IsDue (schedule_due names setup) files actors → IsDue (plan_with names setup images) files (plan setup images actors)
-plan_due_with names setup images None actors is = tt
-plan_due_with names setup images (Some held) actors is = ap (λ r. and_then r (λ xs. Ok (plan setup images xs))) is
+
+started_is : (p : Plan) → start_refusal p.setup p.images ≡ None → started p ≡ Ok p
+started_is p none = ap (λ o. relocated_or o p) none
+
+started_not : (p : Plan) (error : RelocError) → start_refusal p.setup p.images ≡ Some error → started p ≡ Err (Images (fault.NotRelocated error))
+started_not p error some = ap (λ o. relocated_or o p) some
+
+pub plan_due_with : (names : Step) (setup : SetupData) (images : List ImageContents) (files : Option FileMap) (actors : List ℕ) → start_refusal setup images ≡ None → IsDue (schedule_due names setup) files actors → IsDue (plan_with names setup images) files (plan setup images actors)
+plan_due_with names setup images None actors none is = tt
+plan_due_with names setup images (Some held) actors none is = ap (λ r. and_then r (λ xs. started (plan setup images xs))) is ∙ started_is (plan setup images actors) none
+
+-- and the refusal of a relocation
+pub not_relocated : (names : Step) (setup : SetupData) (images : List ImageContents) (files : Option FileMap) (failed : Type 0) (actors : List ℕ) (error : RelocError) → start_refusal setup images ≡ Some error → IsDue (schedule_due names setup) files actors →
+    LoadCause (plan_with names setup images) files failed (Refused (Images (fault.NotRelocated error)))
+not_relocated names setup images None failed actors error some is = tt
+not_relocated names setup images (Some held) failed actors error some is = ap (λ r. and_then r (λ xs. started (plan setup images xs))) is ∙ started_not (plan setup images actors) error some

@@ -5,11 +5,13 @@ use Rattle.smm_base.specs.Sink.{appended, GainsPrefix}
 use Rattle.smm_base.specs.Store.{FileMap, ChangesOnly}
 use Rattle.save_state_map.specs.Images.{ImageContents}
 use Rattle.sync_words.specs.declared.label.Label.{Label}
+use Rattle.cpu_regs.specs.Registers.{Registers}
 use Rattle.cpu_table.specs.Data.{SetupData}
 use Rattle.rendezvous_core.specs.Platform.{Platform as PlatformOf}
 use Rattle.rendezvous_core.specs.Setups.{platform_of, is_built, is_elected, is_traditional, is_one_wave, are_built_handlers}
 use Rattle.std.proofs.lemmas.Bool.{and_parts, eqb-true}
-use Rattle.std.specs.Prelude.{is_none, ◌==◌, ◌&&◌, IsTrue, IsSomeAnd, MatchOption}
+use Rattle.std.specs.Prelude.{◌==◌, ◌&&◌, IsTrue, IsSomeAnd, MatchOption}
+use Rattle.rendezvous_core.specs.Starts.{first_registers, first_registers_of}
 use Rattle.rendezvous_core.specs.Worlds.{last_image}
 use Rattle.rendezvous_core.specs.Machine.{IsRun, beginning, machine_after, member, resumed_image}
 use Rattle.smm_player.specs.declared.command.Step.{Step}
@@ -24,7 +26,7 @@ use Rattle.smm_player.specs.Ending.{GainsBoth, Tells, TellsOrRunsOut, Finishes, 
 use Rattle.smm_player.specs.Loading.{LoadCause}
 use Rattle.smm_player.specs.Outcome.{Outcome, image_saving, step_outcome, due, saved_name, IsSaved}
 use Rattle.smm_player.specs.Performing.{Steps, Performs, StopsAt, WroteBefore}
-use Rattle.smm_player.specs.Plan.{Plan, IsPlayable, labels_of, world_of, report_of}
+use Rattle.smm_player.specs.Plan.{Plan, IsPlayable, registers_of, labels_of, world_of, report_of}
 use Rattle.smm_player.specs.Play.{is_exit_status, IsDone, IsStepped, IsPlayed, WritesPart, WritesAll, IsFaulted, FailsOutside, CanPrecede, RunsOut, UsageRunsOut, IsDueStatus, ChangesOnlySaved, Obeys}
 use Rattle.smm_player.specs.Refusal.{refusal_status, refusal_line, usage_line, memory_line}
 use Rattle.smm_player.proofs.LoadLemmas.{cause_first}
@@ -250,18 +252,27 @@ step_done names files files' before after steps = record {
 }
 
 -- and a play, by what holds of every schedule on a platform that is built
-step_played : (names : Step) (files files' : Option FileMap) (before after : Option (List ℕ)) (steps : Steps names files files' before after) →
-    length steps.plan.images ≡ 1 →
-    IsRun (platform_of steps.plan.setup) (beginning steps.plan.images) (labels_of steps.plan) →
-    last_image (world_of steps.plan) 0 ≡ Some (member (machine_after (platform_of steps.plan.setup) (beginning steps.plan.images) (labels_of steps.plan)) 0).last →
-    ((p : PlatformOf) (image : ImageContents) (es : List (ℕ × Label)) → resumed_image p 0 image es ≡ (member (machine_after p (beginning (image ∷ [])) es) 0).last) →
-    ((p : PlatformOf) (i : ℕ) (image : ImageContents) (es : List (ℕ × Label)) → (resumed_image p i image es).kind ≡ image.kind) →
+abbrev RunOf : Plan → Type 0
+RunOf p = IsRun (platform_of p.setup) (beginning (registers_of p) p.images) (labels_of p)
+
+abbrev LastOf : Plan → Type 0
+LastOf p = last_image (world_of p) 0 ≡ Some (member (machine_after (platform_of p.setup) (beginning (registers_of p) p.images) (labels_of p)) 0).last
+
+abbrev Resumed : Type 0
+Resumed = (p : PlatformOf) (registers : Registers) (image : ImageContents) (es : List (ℕ × Label)) → resumed_image p 0 registers image es ≡ (member (machine_after p (beginning (registers ∷ []) (image ∷ [])) es) 0).last
+
+abbrev KindStays : Type 0
+KindStays = (p : PlatformOf) (i : ℕ) (registers : Registers) (image : ImageContents) (es : List (ℕ × Label)) → (resumed_image p i registers image es).kind ≡ image.kind
+
+step_played : (names : Step) (files files' : Option FileMap) (before after : Option (List ℕ)) (steps : Steps names files files' before after) → length steps.plan.images ≡ 1 → RunOf steps.plan → LastOf steps.plan → Resumed → KindStays →
     IsStepped names files files' before after
 step_played names files files' before after steps count runs last resumed kinds =
     let p = steps.plan in
     let single = one_of p.images count in
     let image = single.0 in
-    let machine = λ (images : List ImageContents). (member (machine_after (platform_of p.setup) (beginning images) (labels_of p)) 0).last in
+    let registers = first_registers_of p.setup 0 image in
+    let es = labels_of p in
+    let machine = λ (images : List ImageContents). (member (machine_after (platform_of p.setup) (beginning (first_registers p.setup images) images) es) 0).last in
     let all_kinds : All (λ i. i.kind ≡ p.setup.kind) (image ∷ []) = let P : List ImageContents → Type 0 = λ xs. All (λ i. i.kind ≡ p.setup.kind) xs in subst P single.1 steps.playable.images.kind in
     record {
       plan = p;
@@ -271,18 +282,13 @@ step_played names files files' before after steps count runs last resumed kinds 
       is_run = runs;
       image = image;
       only = single.1;
-      saved = saved_as names.after files' (resumed_image (platform_of p.setup) 0 image (labels_of p)) (last_image (world_of p) 0)
-          (last ∙ ap (λ xs. Some (machine xs)) single.1 ∙ ap Some (sym (resumed (platform_of p.setup) image (labels_of p)))) steps.saved;
-      kind = kinds (platform_of p.setup) 0 image (labels_of p) ∙ all_kinds.0;
+      saved = saved_as names.after files' (resumed_image (platform_of p.setup) 0 registers image es) (last_image (world_of p) 0)
+          (last ∙ ap (λ xs. Some (machine xs)) single.1 ∙ ap Some (sym (resumed (platform_of p.setup) registers image es))) steps.saved;
+      kind = kinds (platform_of p.setup) 0 registers image es ∙ all_kinds.0;
     }
 
 pub done_obeys : (asked : Command) (files files' : Option FileMap) (l w s : Type 0) (before after : Option (List ℕ)) → Performs asked files files' before after → ChangesOnly (saved_name asked) files files' →
-    ((plan : Plan) → IsPlayable plan → length plan.images ≡ 1) →
-    ((plan : Plan) → IsPlayable plan → IsRun (platform_of plan.setup) (beginning plan.images) (labels_of plan)) →
-    ((plan : Plan) → IsPlayable plan → last_image (world_of plan) 0 ≡ Some (member (machine_after (platform_of plan.setup) (beginning plan.images) (labels_of plan)) 0).last) →
-    ((p : PlatformOf) (image : ImageContents) (es : List (ℕ × Label)) → resumed_image p 0 image es ≡ (member (machine_after p (beginning (image ∷ [])) es) 0).last) →
-    ((p : PlatformOf) (i : ℕ) (image : ImageContents) (es : List (ℕ × Label)) → (resumed_image p i image es).kind ≡ image.kind) →
-    Obeys asked files files' l w s before after 0
+    ((plan : Plan) → IsPlayable plan → length plan.images ≡ 1) → ((plan : Plan) → IsPlayable plan → RunOf plan) → ((plan : Plan) → IsPlayable plan → LastOf plan) → Resumed → KindStays → Obeys asked files files' l w s before after 0
 done_obeys (command.Step names) files files' l w s before after steps others counts runs lasts resumed kinds =
     at_0 (command.Step names) files files' l w s before after (step_done names files files' before after steps)
     (step_played names files files' before after steps (counts steps.plan steps.playable) (runs steps.plan steps.playable) (lasts steps.plan steps.playable) resumed kinds) others
@@ -435,10 +441,9 @@ inputs_others name files files' stay = let P : Option FileMap → Type 0 = λ fs
 -- each platform that is built has one processor
 one_processor : (s : SetupData) → IsTrue (is_built s) → s.processors ≡ 1
 one_processor s built =
-    let a = and_parts (s.processors == 1 && is_elected s.policy && is_traditional s.mode && is_none s.smram && is_one_wave s.waves) (are_built_handlers s.handlers) built in
-    let b = and_parts (s.processors == 1 && is_elected s.policy && is_traditional s.mode && is_none s.smram) (is_one_wave s.waves) a.0 in
-    let d = and_parts (s.processors == 1 && is_elected s.policy && is_traditional s.mode) (is_none s.smram) b.0 in
-    let e = and_parts (s.processors == 1 && is_elected s.policy) (is_traditional s.mode) d.0 in
+    let a = and_parts (s.processors == 1 && is_elected s.policy && is_traditional s.mode && is_one_wave s.waves) (are_built_handlers s.handlers) built in
+    let b = and_parts (s.processors == 1 && is_elected s.policy && is_traditional s.mode) (is_one_wave s.waves) a.0 in
+    let e = and_parts (s.processors == 1 && is_elected s.policy) (is_traditional s.mode) b.0 in
     let f = and_parts (s.processors == 1) (is_elected s.policy) e.0 in
     eqb-true s.processors 1 f.0
 

@@ -9,9 +9,11 @@ use Rattle.image_file.specs.declared.error.ImagesError.{ImagesError}
 use Rattle.image_file.specs.Refusals.{refusal_of}
 use Rattle.image_file.specs.Contents.{images_in}
 use Rattle.cpu_table.specs.Data.{SetupData}
-use Rattle.platform_file.specs.Walk.{platform_of as setup_read}
-use Rattle.platform_file.specs.Schedule.{schedule_of}
+use Rattle.platform_file.specs.Walk.{setup_read}
+use Rattle.schedule_file.specs.Schedule.{schedule_of}
+use Rattle.smbase_reloc.specs.declared.error.RelocError.{RelocError}
 use Rattle.rendezvous_core.specs.Setups.{is_built}
+use Rattle.rendezvous_core.specs.Starts.{start_refusal}
 use Rattle.smm_player.specs.declared.command.Step.{Step}
 use Rattle.smm_player.specs.declared.images.ImagesFault.TheVariants as fault
 use Rattle.smm_player.specs.declared.refusal.Refusal.{Refusal}
@@ -102,9 +104,17 @@ images_due names setup = file_due images_limit names.images (images_found setup.
 abbrev pub schedule_due : Step → SetupData → FileMap → Finding (List ℕ)
 schedule_due names setup = file_due schedule_limit names.schedule (schedule_found setup.processors)
 
--- what a step works on once the platform and the images are there: the schedule comes last
+-- a plan whose processors can begin with their images
+abbrev pub relocated_or : Option RelocError → Plan → Finding Plan
+relocated_or None p = Ok p
+relocated_or (Some error) p = Err (Images (fault.NotRelocated error))
+
+abbrev pub started : Plan → Finding Plan
+started p = relocated_or (start_refusal p.setup p.images) p
+
+-- what a step works on once the platform and the images are there: the schedule comes last, and then the room is taken
 abbrev pub plan_with : Step → SetupData → List ImageContents → FileMap → Finding Plan
-plan_with names setup images held = and_then (schedule_due names setup held) (λ actors. Ok (plan setup images actors))
+plan_with names setup images held = and_then (schedule_due names setup held) (λ actors. started (plan setup images actors))
 
 -- what a step works on once the platform is there: the images come before the schedule
 abbrev pub plan_on : Step → SetupData → FileMap → Finding Plan

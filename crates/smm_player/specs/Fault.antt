@@ -3,8 +3,8 @@ use Rattle.image_file.specs.declared.error.ImagesError.{ImagesError}
 use Rattle.image_file.specs.declared.error.ImagesError.TheVariants as images
 use Rattle.platform_file.specs.declared.error.PlatformError.{PlatformError}
 use Rattle.platform_file.specs.declared.error.PlatformError.TheVariants as platform
-use Rattle.platform_file.specs.declared.schedule_error.ScheduleError.{ScheduleError}
-use Rattle.platform_file.specs.declared.schedule_error.ScheduleError.TheVariants as schedule
+use Rattle.schedule_file.specs.declared.error.ScheduleError.{ScheduleError}
+use Rattle.schedule_file.specs.declared.error.ScheduleError.TheVariants as schedule
 use Rattle.smm_player.specs.declared.images.ImagesFault.TheVariants.{File}
 use Rattle.smm_player.specs.declared.refusal.Refusal.TheVariants.{Platform, Images, Schedule}
 use Rattle.smm_player.specs.declared.fault.Fault.{Fault}

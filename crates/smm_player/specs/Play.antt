@@ -5,6 +5,7 @@ use Rattle.smm_base.specs.Store.{FileMap, ChangesOnly}
 use Rattle.save_state_map.specs.Images.{ImageContents}
 use Rattle.rendezvous_core.specs.Machine.{IsRun, beginning, resumed_image}
 use Rattle.rendezvous_core.specs.Setups.{platform_of}
+use Rattle.rendezvous_core.specs.Starts.{first_registers_of}
 use Rattle.smm_player.specs.declared.command.Step.{Step}
 use Rattle.smm_player.specs.declared.command.Command.{Command}
 use Rattle.smm_player.specs.declared.command.Command.TheVariants as command
@@ -12,7 +13,7 @@ use Rattle.smm_player.specs.declared.refusal.Refusal.{Refusal}
 use Rattle.smm_player.specs.Due.{Finding, plan_due, IsDue, RefusalCause}
 use Rattle.smm_player.specs.Ending.{GainsBoth, Tells}
 use Rattle.smm_player.specs.Outcome.{Outcome, image_saving, due, saved_name, IsSaved}
-use Rattle.smm_player.specs.Plan.{Plan, IsPlayable, labels_of, report_of}
+use Rattle.smm_player.specs.Plan.{Plan, IsPlayable, registers_of, labels_of, report_of}
 use Rattle.smm_player.specs.Refusal.{refusal_status, refusal_line, usage_line, memory_line}
 
 -- done, usage, a file that is no platform, an image file that doesn't serve, a file that is no schedule, a file that isn't read,
@@ -35,11 +36,11 @@ pub record IsStepped (names : Step) (files files' : Option FileMap) (before afte
   pub playable : IsPlayable plan
   pub is_due : IsDue (plan_due names) files plan
   pub written : after ≡ appended before (report_of plan)
-  pub is_run : IsRun (platform_of plan.setup) (beginning plan.images) (labels_of plan)
+  pub is_run : IsRun (platform_of plan.setup) (beginning (registers_of plan) plan.images) (labels_of plan)
   pub image : ImageContents
   pub only : plan.images ≡ image ∷ []
-  pub saved : IsSaved (Some (image_saving names.after (resumed_image (platform_of plan.setup) 0 image (labels_of plan)))) files'
-  pub kind : (resumed_image (platform_of plan.setup) 0 image (labels_of plan)).kind ≡ plan.setup.kind
+  pub saved : IsSaved (Some (image_saving names.after (resumed_image (platform_of plan.setup) 0 (first_registers_of plan.setup 0 image) image (labels_of plan)))) files'
+  pub kind : (resumed_image (platform_of plan.setup) 0 (first_registers_of plan.setup 0 image) image (labels_of plan)).kind ≡ plan.setup.kind
 
 -- what each command has done
 abbrev pub IsPlayed : Command → Option FileMap → Option FileMap → Option (List ℕ) → Option (List ℕ) → Type 0

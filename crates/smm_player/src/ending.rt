@@ -6,7 +6,7 @@ ghost use Rattle.smm_player.specs.Ending.{Finishes, TellsOrRunsOut};
 ghost use Rattle.smm_player.specs.Refusal.{memory_line, refusal_line, refusal_status};
 
 use crate::fault::Fault;
-use crate::refusal::{Refusal, line_of_refusal};
+use crate::refusal::{Refusal, line_of};
 use smm_base::{Sink, WriteError, write_all};
 use std::alloc::Global;
 
@@ -39,8 +39,8 @@ fn tell_refusal<K: Sink>(alloc: Global, refusal: &Refusal, out: &mut K) -> u8
     ensures tells { TellsOrRunsOut (Rose (K.faults out.old) (K.faults out.new)) (K.written out.old) (K.written out.new) (refusal_line refusal.now) (refusal_status refusal.now) result }
     ensures moved { Leads K.moves out.old out.new }
 {
-    match line_of_refusal(alloc, refusal) {
-        Ok(line) => tell(&line, refusal.status(), out),
+    match line_of(alloc, refusal) {
+        Ok(line) => tell(line.as_str().as_bytes(), refusal.status(), out),
         Err(_) => end_without_memory(out),
     }
 }

@@ -6,10 +6,12 @@ use crate::fault::Fault;
 use crate::refusal::Refusal;
 use image_file::ImagesError;
 use save_state_map::Image;
+use smbase_reloc::RelocError;
 use smm_base::MapKind;
+use std::fmt;
 
 /// Why an image file doesn't serve the platform.
-#[derive(Clone, Copy, Debug, PartialEq, Eq)]
+#[derive(Clone, Copy)]
 pub enum ImagesFault {
     /// It is no image file.
     File(ImagesError),
@@ -17,6 +19,27 @@ pub enum ImagesFault {
     KindDiffers,
     /// The platform has so many processors, and the file so many images.
     CountDiffers(u16, usize),
+    /// One of its images can't be relocated to the platform's area for save states.
+    NotRelocated(RelocError),
+}
+
+/// Writes the words that stand after `fault images `.
+impl fmt::Display for ImagesFault {
+    ghost use Rattle.std.specs.Prelude.{Some};
+    ghost use Rattle.smm_player.specs.Refusal.{images_fault_text};
+
+    ghost output = { λ fault. Some (images_fault_text fault) };
+
+    fn fmt<W: fmt::Write>(&self, f: &mut fmt::Formatter<W>) -> fmt::Result {
+        match self {
+            ImagesFault::File(error) => write!(f, "{error}"),
+            ImagesFault::KindDiffers => f.write_str("kind-differs"),
+            ImagesFault::CountDiffers(processors, count) => {
+                write!(f, "count-differs {processors} {count}")
+            }
+            ImagesFault::NotRelocated(error) => write!(f, "{error}"),
+        }
+    }
 }
 
 // Are both of one map?

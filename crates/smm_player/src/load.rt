@@ -10,13 +10,13 @@ ghost use Rattle.smm_player.specs.Loading.{IsLoadFault, IsRefusedFor, LoadCause,
 
 use crate::command::Step;
 use crate::fault::{Fault, images_fault, platform_fault, schedule_fault};
-use crate::images::serving;
+use crate::images::{ImagesFault, serving};
 use crate::inputs::Inputs;
 use crate::refusal::Refusal;
 use cpu_table::{Setup, Text};
 use image_file::read_images;
 use platform_file::{read_platform, read_schedule};
-use rendezvous_core::is_built;
+use rendezvous_core::{is_built, start_fault};
 use save_state_map::Image;
 use smm_base::{LoadError, MapKind, Store};
 use std::alloc::Global;
@@ -215,11 +215,18 @@ fn load_with<F: Store>(
 {
     match load_schedule(alloc, names, &setup, store) {
         Ok(actors) => {
-            Ok(Inputs {
-                setup,
-                images,
-                actors,
-            })
+            match start_fault(&setup, &images) {
+                None => {
+                    Ok(Inputs {
+                        setup,
+                        images,
+                        actors,
+                    })
+                }
+                Some(error) => {
+                    Err(Fault::Refused(Refusal::Images(ImagesFault::NotRelocated(error))))
+                }
+            }
         }
         Err(fault) => Err(fault),
     }
