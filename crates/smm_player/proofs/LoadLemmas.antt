@@ -1,5 +1,5 @@
 -- What is found in the input files, and when a fault may come while they are loaded.
-use Rattle.std.proofs.Common.{◌≡◌, ◌≢◌, ℕ, ◌+◌, ◌==◌, ◌≤◌, ◌⊎◌, inl, inr, Bool, true, false, not, List, [], ◌∷◌, length, All, Option, None, Some, Result, Ok, Err, IfOk, IfErr, IfSome, IsErrOf, IsSomeAnd, MatchOption, ◌<◌, if◌then◌else◌, refl, ap, sym, subst, ◌∙◌, arith}
+use Rattle.std.proofs.Common.{◌≡◌, ◌≢◌, ℕ, ◌+◌, ◌==◌, ◌≤◌, ◌⊎◌, inl, inr, Bool, true, false, List, [], ◌∷◌, length, Option, None, Some, Result, Ok, Err, IfOk, IfErr, IfSome, IsErrOf, IsSomeAnd, MatchOption, ◌<◌, if◌then◌else◌, refl, ap, sym, subst, ◌∙◌}
 use Rattle.std.specs.Str.{bytes_eq}
 use Rattle.std.proofs.lemmas.Bool.{lt-ltb, le-ltb}
 use Rattle.std.proofs.lemmas.Slice.Eq.{bytes_eq-Decides}
@@ -7,7 +7,6 @@ use Rattle.smm_base.specs.Store.{FileMap}
 use Rattle.smm_base.specs.declared.store.LoadError.{LoadError}
 use Rattle.smm_base.specs.declared.store.LoadError.TheVariants as load
 use Rattle.smm_base.specs.declared.kinds.MapKind.{MapKind}
-use Rattle.smm_base.specs.declared.kinds.MapKind.TheVariants.{Ia32, Intel64}
 use Rattle.save_state_map.specs.Images.{ImageContents}
 use Rattle.image_file.specs.declared.error.ImagesError.{ImagesError}
 use Rattle.image_file.specs.declared.error.ImagesError.TheVariants as images
@@ -26,12 +25,11 @@ use Rattle.smm_player.specs.declared.refusal.Refusal.TheVariants.{Read, TooLong,
 use Rattle.smm_player.specs.declared.fault.Fault.{Fault}
 use Rattle.smm_player.specs.declared.fault.Fault.TheVariants.{Refused, Write, Save, Memory}
 use Rattle.smm_player.specs.Fault.{platform_fault, images_fault, schedule_fault}
-use Rattle.smm_player.specs.Due.{Finding, and_then, or_refusal, loaded, file_due, if_built, platform_found, kinds_agree, differs, counted, serving, judged, images_found, schedule_found, without, schedule_due, relocated_or, started, plan_with, IsDue, RefusalCause}
-use Rattle.rendezvous_core.specs.Setups.{is_built}
+use Rattle.smm_player.specs.Due.{Finding, and_then, or_refusal, loaded, file_due, if_built, platform_found, serving, judged, images_found, schedule_found, without, schedule_due, relocated_or, started, plan_with, IsDue, RefusalCause}
 use Rattle.rendezvous_core.specs.Starts.{start_refusal}
 use Rattle.smbase_reloc.specs.declared.error.RelocError.{RelocError}
 use Rattle.smm_player.specs.declared.command.Step.{Step}
-use Rattle.smm_player.specs.Plan.{plan}
+use Rattle.smm_player.specs.Plan.{Plan, plan}
 use Rattle.smm_player.specs.Loading.{IsLoadFault, IsRefusedFor, LoadCause, RefusedReading, StopsReading}
 
 -- a refusal with its cause, or want of memory
@@ -156,8 +154,8 @@ schedule_stops processors bytes schedule.NoMemory why = tt
 
 -- the second step works on what is due by the first
 pub IsDue-then : {A B : Type 0} (first : FileMap → Finding A) (next : A → FileMap → Finding B) (files : Option FileMap) (a : A) (b : B) → IsDue first files a → IsDue (next a) files b → IsDue (λ held. and_then (first held) (λ x. next x held)) files b
-IsDue-then first next None a b due then = tt
-IsDue-then first next (Some held) a b due then = ap (λ r. and_then r (λ x. next x held)) due ∙ then
+IsDue-then first next None a b due second = tt
+IsDue-then first next (Some held) a b due second = ap (λ r. and_then r (λ x. next x held)) due ∙ second
 
 -- a refusal of the first step is one of both
 refused_first : {A B : Type 0} (first : FileMap → Finding A) (next : A → FileMap → Finding B) (held : FileMap) (refusal : Refusal) → first held ≡ Err refusal → and_then (first held) (λ x. next x held) ≡ Err refusal

@@ -10,6 +10,7 @@ use Rattle.cpu_table.specs.Data.{SetupData}
 use Rattle.rendezvous_core.specs.Platform.{Platform as PlatformOf}
 use Rattle.rendezvous_core.specs.Setups.{platform_of, is_built, is_elected, is_traditional, is_one_wave, are_built_handlers}
 use Rattle.std.proofs.lemmas.Bool.{and_parts, eqb-true}
+use Rattle.std.proofs.lemmas.List.Elements.{All-head}
 use Rattle.std.specs.Prelude.{◌==◌, ◌&&◌, IsTrue, IsSomeAnd, MatchOption}
 use Rattle.rendezvous_core.specs.Starts.{first_registers, first_registers_of}
 use Rattle.rendezvous_core.specs.Worlds.{last_image}
@@ -27,7 +28,7 @@ use Rattle.smm_player.specs.Loading.{LoadCause}
 use Rattle.smm_player.specs.Outcome.{Outcome, image_saving, step_outcome, due, saved_name, IsSaved}
 use Rattle.smm_player.specs.Performing.{Steps, Performs, StopsAt, WroteBefore}
 use Rattle.smm_player.specs.Plan.{Plan, IsPlayable, registers_of, labels_of, world_of, report_of}
-use Rattle.smm_player.specs.Play.{is_exit_status, IsDone, IsStepped, IsPlayed, WritesPart, WritesAll, IsFaulted, FailsOutside, CanPrecede, RunsOut, UsageRunsOut, IsDueStatus, ChangesOnlySaved, Obeys}
+use Rattle.smm_player.specs.Play.{is_exit_status, IsDone, IsStepped, IsPlayed, WritesPart, WritesAll, IsFaulted, FailsOutside, RunsOut, UsageRunsOut, IsDueStatus, ChangesOnlySaved, Obeys}
 use Rattle.smm_player.specs.Refusal.{refusal_status, refusal_line, usage_line, memory_line}
 use Rattle.smm_player.proofs.LoadLemmas.{cause_first}
 
@@ -222,7 +223,7 @@ fault_obeys asked files files' l v f w s early late before middle after n Memory
 
 -- no memory before the command began
 changes_nothing : (name : List ℕ) (files : Option FileMap) → ChangesOnly name files files
-changes_nothing name None = tt
+changes_nothing name None = refl
 changes_nothing name (Some held) = λ other apart. refl
 
 memory_obeys : (asked : Command) (files : Option FileMap) (l w s : Type 0) (before after : Option (List ℕ)) → GainsPrefix before after memory_line → Obeys asked files files l w s before after 8
@@ -284,7 +285,7 @@ step_played names files files' before after steps count runs last resumed kinds 
       only = single.1;
       saved = saved_as names.after files' (resumed_image (platform_of p.setup) 0 registers image es) (last_image (world_of p) 0)
           (last ∙ ap (λ xs. Some (machine xs)) single.1 ∙ ap Some (sym (resumed (platform_of p.setup) registers image es))) steps.saved;
-      kind = kinds (platform_of p.setup) 0 registers image es ∙ all_kinds.0;
+      kind = kinds (platform_of p.setup) 0 registers image es ∙ All-head (λ i. i.kind ≡ p.setup.kind) image [] all_kinds;
     }
 
 pub done_obeys : (asked : Command) (files files' : Option FileMap) (l w s : Type 0) (before after : Option (List ℕ)) → Performs asked files files' before after → ChangesOnly (saved_name asked) files files' →

@@ -1,7 +1,7 @@
 -- What a command leaves: the bytes that it writes, and what it saves.
 use Rattle.std.specs.Prelude.{ℕ, ◌≡◌, List, Option, Some, IfSome, Ok}
 use Rattle.std.specs.Option.{option_map}
-use Rattle.smm_base.specs.Store.{FileMap, ChangesOnly}
+use Rattle.smm_base.specs.Store.{FileMap}
 use Rattle.save_state_map.specs.Images.{ImageContents}
 use Rattle.rendezvous_core.specs.Worlds.{last_image}
 use Rattle.smm_player.specs.declared.command.Step.{Step}

@@ -53,3 +53,6 @@ returns-in-Err-clause-unsaved g c = inputs_unsaved (plan_due c.args.names.now) (
 
 pub returns-in-Err-clause-others_stay : goal.returns-in-Err-clause-others_stay
 returns-in-Err-clause-others_stay g c = inputs_others c.args.names.now.after (g.F.Store.files c.args.store.now) (g.F.Store.files c.load_inputs.new.store) c.in-Err.ensures.files_stay
+
+pub returns-in-Err-clause-sink_moved : goal.returns-in-Err-clause-sink_moved
+returns-in-Err-clause-sink_moved g c = stays
