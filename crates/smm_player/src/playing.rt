@@ -89,6 +89,10 @@ fn obey<F: Store, K: Sink>(alloc: Global, command: &Command, store: &mut F, out:
 /// | 2 | `fault platform range KEY NUMBER` | a number, or the length of a list, is out of its range; NUMBER may be negative |
 /// | 2 | `fault platform unknown KEY` | a table has no such key |
 /// | 2 | `fault platform too-large EVENTS` | a schedule could make so many events, which are more than 4,194,304 |
+/// | 2 | `fault platform bad-tile T` | the area for save states is laid out in tiles of T bytes, which is no size of a tile |
+/// | 2 | `fault platform code-too-long C` | its entry code has C bytes, for which a tile has no room |
+/// | 2 | `fault platform low B` | it begins at B, below 40000H |
+/// | 2 | `fault platform past-end E` | the processors' places end at E, after the area's end |
 /// | 3 | `fault images short LEN` | the image file has LEN bytes, and its images take more |
 /// | 3 | `fault images magic` | it doesn't begin with `SMIM` |
 /// | 3 | `fault images version N` | its version isn't 1 |
@@ -97,6 +101,8 @@ fn obey<F: Store, K: Sink>(alloc: Global, command: &Command, store: &mut F, out:
 /// | 3 | `fault images long LEN` | it has LEN bytes, and its images take fewer |
 /// | 3 | `fault images kind-differs` | its images are not of the platform's kind |
 /// | 3 | `fault images count-differs P F` | the platform has P processors, and the file F images |
+/// | 3 | `fault images no-relocation I` | bit 17 of the revision of processor I is 0, and the platform has an area for save states |
+/// | 3 | `fault images not-default I` | the SMBASE of processor I isn't 30000H, and the platform has an area for save states |
 /// | 4 | `fault schedule token AT` | the item that starts at the byte AT, counted from 0, is none |
 /// | 4 | `fault schedule actor AT NUMBER` | the item that starts at the byte AT names an actor that the platform hasn't |
 /// | 4 | `fault schedule too-long` | the items stand for more than 4,194,304 actors |
@@ -108,7 +114,8 @@ fn obey<F: Store, K: Sink>(alloc: Global, command: &Command, store: &mut F, out:
 ///
 /// The words are judged first. Then each file is loaded and judged, in the order of the words: the
 /// platform, the images, the schedule. Of a platform it is asked last whether it is built, and of images
-/// their kind comes before their count. With another status than 0 and 7 nothing is saved, and no name
+/// their kind comes before their count. Whether the processors can be relocated is judged when the
+/// schedule is read. With another status than 0 and 7 nothing is saved, and no name
 /// but AFTER ever changes.
 pub fn play<F: Store, K: Sink>(alloc: Global, words: &Vec<String>, store: &mut F, out: &mut K) -> u8
     ensures status { IsTrue (is_exit_status result) }

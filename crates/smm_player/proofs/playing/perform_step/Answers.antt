@@ -1,5 +1,5 @@
 use Rattle.std.proofs.Common.{◌≡◌, ◌∙◌, Option, subst}
-use Rattle.smm_base.specs.Calls.{leads_on, rose_later}
+use Rattle.smm_base.specs.Calls.{leads_on, rose_later, stays}
 use Rattle.smm_base.specs.Store.{FileMap, ChangesOnly}
 use Rattle.smm_base.specs.Faults.{Rose}
 use Rattle.smm_player.specs.Plan.{plan_of, report_of}
@@ -31,7 +31,7 @@ returns-in-Ok-clause-wrote g c =
     (g.K.Sink.written c.args.out.now) (g.K.Sink.written c.replay_inputs.new.out) (plan_of c.in-Ok.inputs) c.in-Ok.ensures.due c.replay_inputs.ensures.ends
 
 pub returns-in-Ok-clause-unsaved : goal.returns-in-Ok-clause-unsaved
-returns-in-Ok-clause-unsaved g c = unsaved_from c.replay_inputs.result (g.F.Store.files c.replay_inputs.new.store ≡ g.F.Store.files c.load_inputs.new.store) (g.F.Store.files c.replay_inputs.new.store ≡ g.F.Store.files c.args.store.now) (λ stays. stays ∙ c.in-Ok.ensures.files_stay) c.replay_inputs.ensures.unsaved
+returns-in-Ok-clause-unsaved g c = unsaved_from c.replay_inputs.result (g.F.Store.files c.replay_inputs.new.store ≡ g.F.Store.files c.load_inputs.new.store) (g.F.Store.files c.replay_inputs.new.store ≡ g.F.Store.files c.args.store.now) (λ stay. stay ∙ c.in-Ok.ensures.files_stay) c.replay_inputs.ensures.unsaved
 
 pub returns-in-Ok-clause-others_stay : goal.returns-in-Ok-clause-others_stay
 returns-in-Ok-clause-others_stay g c =
