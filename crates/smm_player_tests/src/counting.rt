@@ -47,6 +47,7 @@ pub struct Full;
 
 impl Sink for Full {
     ghost use Rattle.std.specs.Prelude.{None};
+    ghost use Rattle.std.proofs.Common.{rules};
 
     ghost written = { λ _. None };
 
@@ -62,5 +63,35 @@ impl Sink for Full {
         Err(WriteError::NoMemory)
     }
 
-    ghost never_falls = { λ _ _ _. Prim.search () };
+    ghost never_falls = { λ before after moved. Prim.search rules };
+}
+
+/// A sink that takes all, and remembers how long the longest piece was and how many there were.
+#[derive(Drop)]
+pub struct Pieces {
+    pub longest: usize,
+    pub count: u64,
+}
+
+impl Sink for Pieces {
+    ghost use Rattle.std.specs.Prelude.{None};
+    ghost use Rattle.std.proofs.Common.{rules};
+
+    ghost written = { λ _. None };
+
+    ghost faults = { λ _. 0 };
+
+    ghost fails_next = { λ _. None };
+
+    ghost most = { λ _. None };
+
+    ghost moves = { λ _ _. Unit };
+
+    fn write(&mut self, piece: &[u8]) -> Result<usize, WriteError> {
+        self.longest = self.longest.max(piece.len());
+        self.count = self.count.saturating_add(1);
+        Ok(piece.len())
+    }
+
+    ghost never_falls = { λ before after moved. Prim.search rules };
 }
