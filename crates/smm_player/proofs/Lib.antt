@@ -1,3 +1,4 @@
+pub mod ImageLemmas
 pub mod LoadLemmas
 pub mod PlayLemmas
 pub mod ReplayLemmas

@@ -1,131 +1,139 @@
--- What is found in the input files, and what is due for them.
-use Rattle.std.proofs.Common.{◌≡◌, ◌≢◌, ℕ, ◌+◌, ◌==◌, ◌≤◌, ◌⊎◌, inl, inr, Bool, true, false, List, [], ◌∷◌, length, Option, None, Some, Result, Ok, Err, IfOk, IfErr, IfSome, if◌then◌else◌, refl, ap, sym, subst, ◌∙◌, arith}
-use Rattle.smm_base.specs.Faults.{Rose}
+-- What is found in the input files, and when a fault may come while they are loaded.
+use Rattle.std.proofs.Common.{◌≡◌, ◌≢◌, ℕ, ◌+◌, ◌==◌, ◌≤◌, ◌⊎◌, inl, inr, Bool, true, false, List, [], ◌∷◌, length, Option, None, Some, Result, Ok, Err, IfOk, IfErr, IfSome, IsErrOf, IsSomeAnd, MatchOption, ◌<◌, if◌then◌else◌, refl, ap, sym, subst, ◌∙◌}
+use Rattle.std.specs.Str.{bytes_eq}
+use Rattle.std.proofs.lemmas.Bool.{lt-ltb, le-ltb}
+use Rattle.std.proofs.lemmas.Slice.Eq.{bytes_eq-Decides}
 use Rattle.smm_base.specs.Store.{FileMap}
+use Rattle.smm_base.specs.declared.store.LoadError.{LoadError}
+use Rattle.smm_base.specs.declared.store.LoadError.TheVariants as load
 use Rattle.smm_base.specs.declared.kinds.MapKind.{MapKind}
-use Rattle.smm_base.specs.declared.kinds.MapKind.TheVariants.{Ia32, Intel64}
 use Rattle.save_state_map.specs.Images.{ImageContents}
 use Rattle.image_file.specs.declared.error.ImagesError.{ImagesError}
 use Rattle.image_file.specs.declared.error.ImagesError.TheVariants as images
 use Rattle.image_file.specs.Refusals.{refusal_of}
 use Rattle.image_file.specs.Contents.{images_in}
-use Rattle.cpu_table.specs.Data.{SetupData, data_of}
-use Rattle.cpu_table.specs.declared.setup.Setup.{Setup}
+use Rattle.cpu_table.specs.Data.{SetupData}
 use Rattle.platform_file.specs.declared.error.PlatformError.{PlatformError}
 use Rattle.platform_file.specs.declared.error.PlatformError.TheVariants as platform
-use Rattle.platform_file.specs.declared.schedule_error.ScheduleError.{ScheduleError}
-use Rattle.platform_file.specs.declared.schedule_error.ScheduleError.TheVariants as schedule
-use Rattle.platform_file.specs.Walk.{platform_of as setup_read}
-use Rattle.platform_file.specs.Schedule.{schedule_of}
-use Rattle.rendezvous_core.specs.Setups.{is_built}
-use Rattle.smm_player.specs.declared.input.Input.{Input}
-use Rattle.smm_player.specs.declared.input.Input.TheVariants as file
+use Rattle.schedule_file.specs.declared.error.ScheduleError.{ScheduleError}
+use Rattle.schedule_file.specs.declared.error.ScheduleError.TheVariants as schedule
+use Rattle.platform_file.specs.Walk.{setup_read}
+use Rattle.schedule_file.specs.Schedule.{schedule_of}
 use Rattle.smm_player.specs.declared.images.ImagesFault.TheVariants as fault
 use Rattle.smm_player.specs.declared.refusal.Refusal.{Refusal}
 use Rattle.smm_player.specs.declared.refusal.Refusal.TheVariants.{Read, TooLong, Platform, Images, Schedule, NotBuilt}
 use Rattle.smm_player.specs.declared.fault.Fault.{Fault}
-use Rattle.smm_player.specs.declared.fault.Fault.TheVariants.{Usage, Refused, Write, Save, Memory}
+use Rattle.smm_player.specs.declared.fault.Fault.TheVariants.{Refused, Write, Save, Memory}
 use Rattle.smm_player.specs.Fault.{platform_fault, images_fault, schedule_fault}
-use Rattle.smm_player.specs.Verdict.{Finding, then_on, or_refusal, or_fault, loaded, if_built, platform_found, same_kind, only_one, single, judged, images_found, schedule_found, due, RefusedReading, StopsReading, RefusalCause, HasCause, IsDue, told_at}
+use Rattle.smm_player.specs.Due.{Finding, and_then, or_refusal, loaded, file_due, if_built, platform_found, serving, judged, images_found, schedule_found, without, schedule_due, relocated_or, started, plan_with, IsDue, RefusalCause}
+use Rattle.rendezvous_core.specs.Starts.{start_refusal}
+use Rattle.smbase_reloc.specs.declared.error.RelocError.{RelocError}
+use Rattle.smm_player.specs.declared.command.Step.{Step}
+use Rattle.smm_player.specs.Plan.{Plan, plan}
+use Rattle.smm_player.specs.Loading.{IsLoadFault, IsRefusedFor, LoadCause, RefusedReading, StopsReading}
 
--- the value of a finding as an answer
-pub single_found : {A : Type 0} (found same : Finding A) → found ≡ same → IfOk (or_fault same) (λ value. found ≡ Ok value)
-single_found found (Ok value) is = is
-single_found found (Err refusal) is = tt
+-- a refusal with its cause, or want of memory
+pub refused_cause : {A : Type 0} (judge : FileMap → Finding A) (files : Option FileMap) (failed : Type 0) (refusal : Refusal) (fault : Fault) → IsRefusedFor refusal fault → RefusalCause judge files failed refusal → LoadCause judge files failed fault
+refused_cause judge files failed refusal fault is cause =
+    let P : Fault → Type 0 = λ f. LoadCause judge files failed f in
+    elim is [ inl e ↦ subst P (sym e) cause | inr e ↦ subst P (sym e) tt ]
+
+pub refused_reading : {A : Type 0} (found : Finding A) (refusal : Refusal) (fault : Fault) → IsRefusedFor refusal fault → RefusedReading found refusal → StopsReading found fault
+refused_reading found refusal fault is cause =
+    let P : Fault → Type 0 = λ f. StopsReading found f in
+    elim is [ inl e ↦ subst P (sym e) cause | inr e ↦ subst P (sym e) tt ]
+
+-- the load of one file
+
+gone : (limit : ℕ) (name : List ℕ) (held : FileMap) → loaded limit name (without name held name) ≡ Err (Read name)
+gone limit name held = ap (λ b. loaded limit name (if b then None else held name)) ((bytes_eq-Decides name name).1 refl)
+
+pub load_failed : (limit : ℕ) (name : List ℕ) (files : Option FileMap) (failed : Type 0) → failed → RefusalCause (λ held. loaded limit name (held name)) files failed (Read name)
+load_failed limit name None failed did = did
+load_failed limit name (Some held) failed did = inr (did, gone limit name held)
+
+pub load_missing : (limit : ℕ) (name : List ℕ) (files : Option FileMap) (failed : Type 0) → MatchOption files failed (λ held. held name ≡ None) → RefusalCause (λ held. loaded limit name (held name)) files failed (Read name)
+load_missing limit name None failed is = is
+load_missing limit name (Some held) failed is = inl (ap (loaded limit name) is)
+
+longer : (limit : ℕ) (name : List ℕ) (held : Option (List ℕ)) → IsSomeAnd held (λ bytes. limit < length bytes) → loaded limit name held ≡ Err (TooLong name limit)
+longer limit name None is = absurd is
+longer limit name (Some bytes) is = ap (λ b. if b then Err (TooLong name limit) else Ok bytes) (lt-ltb limit (length bytes) is)
+
+pub load_too_long : (limit : ℕ) (name : List ℕ) (files : Option FileMap) (failed : Type 0) → MatchOption files failed (λ held. IsSomeAnd (held name) (λ bytes. limit < length bytes)) → RefusalCause (λ held. loaded limit name (held name)) files failed (TooLong name limit)
+load_too_long limit name None failed is = is
+load_too_long limit name (Some held) failed is = longer limit name (held name) is
+
+within : (limit : ℕ) (name bytes : List ℕ) (held : Option (List ℕ)) → length bytes ≤ limit → held ≡ Some bytes → loaded limit name held ≡ Ok bytes
+within limit name bytes held fits is = ap (loaded limit name) is ∙ ap (λ b. if b then Err (TooLong name limit) else Ok bytes) (le-ltb limit (length bytes) fits)
+
+pub load_due : (limit : ℕ) (name : List ℕ) (files : Option FileMap) (bytes : List ℕ) → length bytes ≤ limit → IfSome files (λ held. held name ≡ Some bytes) → IsDue (λ held. loaded limit name (held name)) files bytes
+load_due limit name None bytes fits is = tt
+load_due limit name (Some held) bytes fits is = within limit name bytes (held name) fits is
+
+-- what stops a load, by its error
+pub load_stops : (T : Type 0) (limit : ℕ) (name : List ℕ) (files : Option FileMap) (failed : Type 0) (error : LoadError) (fault : Fault) →
+    (IsErrOf {T = T} (Err error) load.Failed → failed) →
+    (IsErrOf {T = T} (Err error) load.Missing → MatchOption files failed (λ held. held name ≡ None)) →
+    (IsErrOf {T = T} (Err error) load.TooLong → MatchOption files failed (λ held. IsSomeAnd (held name) (λ bytes. limit < length bytes))) →
+    IsLoadFault limit name error fault → LoadCause (λ held. loaded limit name (held name)) files failed fault
+load_stops T limit name files failed load.Failed fault did missing long is =
+    refused_cause (λ held. loaded limit name (held name)) files failed (Read name) fault is (load_failed limit name files failed (did refl))
+load_stops T limit name files failed load.Missing fault did missing long is =
+    refused_cause (λ held. loaded limit name (held name)) files failed (Read name) fault is (load_missing limit name files failed (missing refl))
+load_stops T limit name files failed load.TooLong fault did missing long is =
+    refused_cause (λ held. loaded limit name (held name)) files failed (TooLong name limit) fault is (load_too_long limit name files failed (long refl))
+load_stops T limit name files failed load.NoMemory fault did missing long is =
+    let P : Fault → Type 0 = λ f. LoadCause (λ (held : FileMap). loaded limit name (held name)) files failed f in subst P (sym is) tt
 
 -- the platform file
 
 -- a setup that was read is judged
-read_on : (bytes : List ℕ) (setup : SetupData) → setup_read bytes ≡ Ok setup → platform_found bytes ≡ if_built setup
-read_on bytes setup read = ap (λ r. then_on (or_refusal Platform r) if_built) read
+pub read_on : (name bytes : List ℕ) (setup : SetupData) → setup_read bytes ≡ Ok setup → platform_found name bytes ≡ if_built name setup
+read_on name bytes setup read = ap (λ r. and_then (or_refusal Platform r) (if_built name)) read
 
--- a setup as an answer, where it is built
-abbrev built_answer : Bool → Setup → Result Setup Fault
-built_answer b setup = if b then Ok setup else Err (Refused (NotBuilt file.Platform))
-
-found_if : (b : Bool) (found : Finding SetupData) (setup : Setup) → found ≡ (if b then Ok (data_of setup) else Err (NotBuilt file.Platform)) → IfOk (built_answer b setup) (λ built. found ≡ Ok (data_of built))
-found_if true found setup is = is
-found_if false found setup is = tt
-
-stops_if : (b : Bool) (found : Finding SetupData) (setup : Setup) → found ≡ (if b then Ok (data_of setup) else Err (NotBuilt file.Platform)) → IfErr (built_answer b setup) (StopsReading found)
-stops_if true found setup is = tt
-stops_if false found setup is = is
-
--- the setup of a platform file is found, or stops the reading
-pub setup_found : (bytes : List ℕ) (setup : Setup) (r : Result Setup Fault) → setup_read bytes ≡ Ok (data_of setup) → r ≡ built_answer (is_built (data_of setup)) setup → IfOk r (λ built. platform_found bytes ≡ Ok (data_of built))
-setup_found bytes setup r read is =
-    let P : Result Setup Fault → Type 0 = λ x. IfOk x (λ built. platform_found bytes ≡ Ok (data_of built)) in
-    subst P (sym is) (found_if (is_built (data_of setup)) (platform_found bytes) setup (read_on bytes (data_of setup) read))
-
-pub setup_stops : (bytes : List ℕ) (setup : Setup) (r : Result Setup Fault) → setup_read bytes ≡ Ok (data_of setup) → r ≡ built_answer (is_built (data_of setup)) setup → IfErr r (StopsReading (platform_found bytes))
-setup_stops bytes setup r read is =
-    let P : Result Setup Fault → Type 0 = λ x. IfErr x (StopsReading (platform_found bytes)) in
-    subst P (sym is) (stops_if (is_built (data_of setup)) (platform_found bytes) setup (read_on bytes (data_of setup) read))
-
-read_stops : (bytes : List ℕ) (error : PlatformError) → setup_read bytes ≡ Err error → platform_found bytes ≡ Err (Platform error)
-read_stops bytes error read = ap (λ r. then_on (or_refusal Platform r) if_built) read
+read_stops : (name bytes : List ℕ) (error : PlatformError) → setup_read bytes ≡ Err error → platform_found name bytes ≡ Err (Platform error)
+read_stops name bytes error read = ap (λ r. and_then (or_refusal Platform r) (if_built name)) read
 
 -- an error of the platform file stops the reading
-pub platform_stops : (bytes : List ℕ) (error : PlatformError) → (error ≡ platform.NoMemory) ⊎ (setup_read bytes ≡ Err error) → StopsReading (platform_found bytes) (platform_fault error)
-platform_stops bytes platform.NotToml why = elim why [ inl is ↦ absurd cc | inr read ↦ read_stops bytes platform.NotToml read ]
-platform_stops bytes (platform.Missing key) why = elim why [ inl is ↦ absurd cc | inr read ↦ read_stops bytes (platform.Missing key) read ]
-platform_stops bytes (platform.WrongType key) why = elim why [ inl is ↦ absurd cc | inr read ↦ read_stops bytes (platform.WrongType key) read ]
-platform_stops bytes (platform.Word key) why = elim why [ inl is ↦ absurd cc | inr read ↦ read_stops bytes (platform.Word key) read ]
-platform_stops bytes (platform.Range key number) why = elim why [ inl is ↦ absurd cc | inr read ↦ read_stops bytes (platform.Range key number) read ]
-platform_stops bytes (platform.Unknown key) why = elim why [ inl is ↦ absurd cc | inr read ↦ read_stops bytes (platform.Unknown key) read ]
-platform_stops bytes (platform.TooLarge events) why = elim why [ inl is ↦ absurd cc | inr read ↦ read_stops bytes (platform.TooLarge events) read ]
-platform_stops bytes platform.NoMemory why = tt
+pub platform_stops : (name bytes : List ℕ) (error : PlatformError) → (error ≡ platform.NoMemory) ⊎ (setup_read bytes ≡ Err error) → StopsReading (platform_found name bytes) (platform_fault error)
+platform_stops name bytes platform.NotToml why = elim why [ inl is ↦ absurd cc | inr read ↦ read_stops name bytes platform.NotToml read ]
+platform_stops name bytes (platform.Missing key) why = elim why [ inl is ↦ absurd cc | inr read ↦ read_stops name bytes (platform.Missing key) read ]
+platform_stops name bytes (platform.WrongType key) why = elim why [ inl is ↦ absurd cc | inr read ↦ read_stops name bytes (platform.WrongType key) read ]
+platform_stops name bytes (platform.Word key) why = elim why [ inl is ↦ absurd cc | inr read ↦ read_stops name bytes (platform.Word key) read ]
+platform_stops name bytes (platform.Range key number) why = elim why [ inl is ↦ absurd cc | inr read ↦ read_stops name bytes (platform.Range key number) read ]
+platform_stops name bytes (platform.Unknown key) why = elim why [ inl is ↦ absurd cc | inr read ↦ read_stops name bytes (platform.Unknown key) read ]
+platform_stops name bytes (platform.TooLarge events) why = elim why [ inl is ↦ absurd cc | inr read ↦ read_stops name bytes (platform.TooLarge events) read ]
+platform_stops name bytes (platform.Layout error) why = elim why [ inl is ↦ absurd cc | inr read ↦ read_stops name bytes (platform.Layout error) read ]
+platform_stops name bytes platform.NoMemory why = tt
+
+-- what is found by another name
+pub as_found : {A V : Type 0} (view : V → A) (found other : Finding A) (r : Result V Fault) → found ≡ other → IfOk r (λ value. other ≡ Ok (view value)) → IfOk r (λ value. found ≡ Ok (view value))
+as_found view found other (Ok value) same is = same ∙ is
+as_found view found other (Err stopped) same is = tt
+
+pub as_stops : {A V : Type 0} (found other : Finding A) (r : Result V Fault) → found ≡ other → IfErr r (StopsReading other) → IfErr r (StopsReading found)
+as_stops found other (Ok value) same stops = tt
+as_stops {A} found other (Err stopped) same stops = let P : Finding A → Type 0 = λ x. StopsReading x stopped in subst P (sym same) stops
 
 -- the image file
 
 -- images of a file without a refusal are found by their kind and count
-pub found_single : (kind : MapKind) (bytes : List ℕ) (held : List ImageContents) → refusal_of bytes ≡ None → held ≡ images_in bytes → images_found kind bytes ≡ single kind held
-found_single kind bytes held none is = ap (λ o. judged kind o (images_in bytes)) none ∙ ap (single kind) (sym is)
+pub found_serving : (kind : MapKind) (processors : ℕ) (bytes : List ℕ) (held : List ImageContents) → refusal_of bytes ≡ None → held ≡ images_in bytes → images_found kind processors bytes ≡ serving kind processors held
+found_serving kind processors bytes held none is = ap (λ o. judged kind processors o (images_in bytes)) none ∙ ap (serving kind processors) (sym is)
 
-same_kind_is : (first second : MapKind) → same_kind first second ≡ true → first ≡ second
-same_kind_is Ia32 Ia32 same = refl
-same_kind_is Ia32 Intel64 same = cc
-same_kind_is Intel64 Ia32 same = cc
-same_kind_is Intel64 Intel64 same = refl
-
-only_kind : (b : Bool) (kind : MapKind) (first : ImageContents) (n : ℕ) → first.kind ≡ kind → IfOk (or_fault (if b then Ok first else Err (Images (fault.CountDiffers n)))) (λ image. image.kind ≡ kind)
-only_kind true kind first n is = is
-only_kind false kind first n is = tt
-
-one_kind : (b : Bool) (kind : MapKind) (first : ImageContents) (others : List ImageContents) → (b ≡ true → first.kind ≡ kind) → IfOk (or_fault (if b then only_one first others else Err (Images fault.KindDiffers))) (λ image. image.kind ≡ kind)
-one_kind true kind first others is = only_kind (length others == 0) kind first (length others + 1) (is refl)
-one_kind false kind first others is = tt
-
--- a single image is of the kind
-pub single_kind : (kind : MapKind) (held : List ImageContents) → IfOk (or_fault (single kind held)) (λ image. image.kind ≡ kind)
-single_kind kind [] = tt
-single_kind kind (first ∷ others) = one_kind (same_kind first.kind kind) kind first others (same_kind_is first.kind kind)
-
-only_stops : (found : Finding ImageContents) (b : Bool) (first : ImageContents) (n : ℕ) → found ≡ (if b then Ok first else Err (Images (fault.CountDiffers n))) → IfErr (or_fault {A = ImageContents} (if b then Ok first else Err (Images (fault.CountDiffers n)))) (StopsReading found)
-only_stops found true first n is = tt
-only_stops found false first n is = is
-
-one_stops : (found : Finding ImageContents) (b : Bool) (first : ImageContents) (others : List ImageContents) → found ≡ (if b then only_one first others else Err (Images fault.KindDiffers)) → IfErr (or_fault (if b then only_one first others else Err (Images fault.KindDiffers))) (StopsReading found)
-one_stops found true first others is = only_stops found (length others == 0) first (length others + 1) is
-one_stops found false first others is = is
-
--- what isn't a single image of the kind stops the reading
-pub single_stops : (found : Finding ImageContents) (kind : MapKind) (held : List ImageContents) → found ≡ single kind held → IfErr (or_fault (single kind held)) (StopsReading found)
-single_stops found kind [] is = is
-single_stops found kind (first ∷ others) is = one_stops found (same_kind first.kind kind) first others is
-
-refused_stops : (kind : MapKind) (bytes : List ℕ) (error : ImagesError) → refusal_of bytes ≡ Some error → images_found kind bytes ≡ Err (Images (fault.File error))
-refused_stops kind bytes error refused = ap (λ o. judged kind o (images_in bytes)) refused
+refused_stops : (kind : MapKind) (processors : ℕ) (bytes : List ℕ) (error : ImagesError) → refusal_of bytes ≡ Some error → images_found kind processors bytes ≡ Err (Images (fault.File error))
+refused_stops kind processors bytes error refused = ap (λ o. judged kind processors o (images_in bytes)) refused
 
 -- a refusal of the image file stops the reading
-pub images_stop : (kind : MapKind) (bytes : List ℕ) (error : ImagesError) → (error ≢ images.NoMemory → refusal_of bytes ≡ Some error) → StopsReading (images_found kind bytes) (images_fault error)
-images_stop kind bytes (images.Short length) has = refused_stops kind bytes (images.Short length) (has (λ is. cc))
-images_stop kind bytes images.Magic has = refused_stops kind bytes images.Magic (has (λ is. cc))
-images_stop kind bytes (images.Version version) has = refused_stops kind bytes (images.Version version) (has (λ is. cc))
-images_stop kind bytes (images.Kind number) has = refused_stops kind bytes (images.Kind number) (has (λ is. cc))
-images_stop kind bytes (images.Count count) has = refused_stops kind bytes (images.Count count) (has (λ is. cc))
-images_stop kind bytes (images.Long length) has = refused_stops kind bytes (images.Long length) (has (λ is. cc))
-images_stop kind bytes images.NoMemory has = tt
+pub images_stop : (kind : MapKind) (processors : ℕ) (bytes : List ℕ) (error : ImagesError) → (error ≢ images.NoMemory → refusal_of bytes ≡ Some error) → StopsReading (images_found kind processors bytes) (images_fault error)
+images_stop kind processors bytes (images.Short length) has = refused_stops kind processors bytes (images.Short length) (has (λ is. cc))
+images_stop kind processors bytes images.Magic has = refused_stops kind processors bytes images.Magic (has (λ is. cc))
+images_stop kind processors bytes (images.Version version) has = refused_stops kind processors bytes (images.Version version) (has (λ is. cc))
+images_stop kind processors bytes (images.Kind number) has = refused_stops kind processors bytes (images.Kind number) (has (λ is. cc))
+images_stop kind processors bytes (images.Count count) has = refused_stops kind processors bytes (images.Count count) (has (λ is. cc))
+images_stop kind processors bytes (images.Long length) has = refused_stops kind processors bytes (images.Long length) (has (λ is. cc))
+images_stop kind processors bytes images.NoMemory has = tt
 
 -- the schedule
 
@@ -142,44 +150,167 @@ schedule_stops processors bytes (schedule.Actor at actor) why = elim why [ inl i
 schedule_stops processors bytes schedule.TooLong why = elim why [ inl is ↦ absurd cc | inr read ↦ actors_stop processors bytes schedule.TooLong read ]
 schedule_stops processors bytes schedule.NoMemory why = tt
 
--- an input file: what is found in its loaded bytes is due
+-- one step after another
 
-file_due : {B : Type 0} (input : Input) (judge : List ℕ → Finding B) (name : List ℕ) (files : Option FileMap) (bytes : List ℕ) (found : Finding B) →
-    IsDue (told_at (loaded input) name files) bytes → judge bytes ≡ found → IfSome (told_at (λ held. then_on (loaded input held) judge) name files) (λ finding. finding ≡ found)
-file_due input judge name None bytes found due is = tt
-file_due input judge name (Some held) bytes found due is = ap (λ x. then_on x judge) due ∙ is
+-- the second step works on what is due by the first
+pub IsDue-then : {A B : Type 0} (first : FileMap → Finding A) (next : A → FileMap → Finding B) (files : Option FileMap) (a : A) (b : B) → IsDue first files a → IsDue (next a) files b → IsDue (λ held. and_then (first held) (λ x. next x held)) files b
+IsDue-then first next None a b due second = tt
+IsDue-then first next (Some held) a b due second = ap (λ r. and_then r (λ x. next x held)) due ∙ second
 
-pub each_due : {A B : Type 0} (view : A → B) (input : Input) (judge : List ℕ → Finding B) (name : List ℕ) (files : Option FileMap) (bytes : List ℕ) (r : Result A Fault) →
-    IsDue (told_at (loaded input) name files) bytes → IfOk r (λ value. judge bytes ≡ Ok (view value)) → IfOk r (λ value. IsDue (told_at (λ held. then_on (loaded input held) judge) name files) (view value))
-each_due view input judge name files bytes (Ok value) due found = file_due input judge name files bytes (Ok (view value)) due found
-each_due view input judge name files bytes (Err stopped) due found = tt
+-- a refusal of the first step is one of both
+refused_first : {A B : Type 0} (first : FileMap → Finding A) (next : A → FileMap → Finding B) (held : FileMap) (refusal : Refusal) → first held ≡ Err refusal → and_then (first held) (λ x. next x held) ≡ Err refusal
+refused_first first next held refusal is = ap (λ r. and_then r (λ x. next x held)) is
 
--- and a refusal for what they hold is its cause
-held_cause : {B : Type 0} (input : Input) (judge : List ℕ → Finding B) (name : List ℕ) (files : Option FileMap) (l : Type 0) (bytes : List ℕ) (refusal : Refusal) →
-    IsDue (told_at (loaded input) name files) bytes → RefusedReading (judge bytes) refusal → RefusalCause (told_at (λ held. then_on (loaded input held) judge) name files) l refusal
-held_cause input judge name files l bytes (Read other) due refused = absurd refused
-held_cause input judge name files l bytes (TooLong other) due refused = absurd refused
-held_cause input judge name files l bytes (Platform error) due refused = file_due input judge name files bytes (Err (Platform error)) due refused
-held_cause input judge name files l bytes (Images other) due refused = file_due input judge name files bytes (Err (Images other)) due refused
-held_cause input judge name files l bytes (Schedule error) due refused = file_due input judge name files bytes (Err (Schedule error)) due refused
-held_cause input judge name files l bytes (NotBuilt other) due refused = file_due input judge name files bytes (Err (NotBuilt other)) due refused
+pub cause_first : {A B : Type 0} (first : FileMap → Finding A) (next : A → FileMap → Finding B) (files : Option FileMap) (failed : Type 0) (refusal : Refusal) → RefusalCause first files failed refusal → RefusalCause (λ held. and_then (first held) (λ x. next x held)) files failed refusal
+cause_first first next None failed (Read name) cause = cause
+cause_first first next (Some held) failed (Read name) cause = elim cause [ inl is ↦ inl (refused_first first next held (Read name) is) | inr x ↦ inr (x.0, refused_first first next (without name held) (Read name) x.1) ]
+cause_first first next None failed (TooLong name limit) cause = cause
+cause_first first next (Some held) failed (TooLong name limit) cause = refused_first first next held (TooLong name limit) cause
+cause_first first next None failed (Platform error) cause = tt
+cause_first first next (Some held) failed (Platform error) cause = refused_first first next held (Platform error) cause
+cause_first first next None failed (Images error) cause = tt
+cause_first first next (Some held) failed (Images error) cause = refused_first first next held (Images error) cause
+cause_first first next None failed (Schedule error) cause = tt
+cause_first first next (Some held) failed (Schedule error) cause = refused_first first next held (Schedule error) cause
+cause_first first next None failed (NotBuilt name) cause = tt
+cause_first first next (Some held) failed (NotBuilt name) cause = refused_first first next held (NotBuilt name) cause
 
-stop_cause : {B : Type 0} (input : Input) (judge : List ℕ → Finding B) (name : List ℕ) (files : Option FileMap) (l : Type 0) (bytes : List ℕ) (stopped : Fault) →
-    IsDue (told_at (loaded input) name files) bytes → StopsReading (judge bytes) stopped → HasCause (told_at (λ held. then_on (loaded input held) judge) name files) l stopped
-stop_cause input judge name files l bytes Usage due stops = stops
-stop_cause input judge name files l bytes (Refused refusal) due stops = held_cause input judge name files l bytes refusal due stops
-stop_cause input judge name files l bytes Write due stops = stops
-stop_cause input judge name files l bytes Save due stops = stops
-stop_cause input judge name files l bytes Memory due stops = tt
+pub stop_first : {A B : Type 0} (first : FileMap → Finding A) (next : A → FileMap → Finding B) (files : Option FileMap) (failed : Type 0) (fault : Fault) → LoadCause first files failed fault → LoadCause (λ held. and_then (first held) (λ x. next x held)) files failed fault
+stop_first first next files failed (Refused refusal) cause = cause_first first next files failed refusal cause
+stop_first first next files failed Write cause = cause
+stop_first first next files failed Save cause = cause
+stop_first first next files failed Memory cause = tt
 
-pub each_cause : {A B : Type 0} (input : Input) (judge : List ℕ → Finding B) (name : List ℕ) (files : Option FileMap) (l : Type 0) (bytes : List ℕ) (r : Result A Fault) →
-    IsDue (told_at (loaded input) name files) bytes → IfErr r (StopsReading (judge bytes)) → IfErr r (HasCause (told_at (λ held. then_on (loaded input held) judge) name files) l)
-each_cause input judge name files l bytes (Ok value) due stops = tt
-each_cause input judge name files l bytes (Err stopped) due stops = stop_cause input judge name files l bytes stopped due stops
+-- Without a name, a step finds what it found, or it stops there.
+abbrev pub IsSteady : {A : Type 0} → (FileMap → Finding A) → Type 0
+IsSteady first = (held : FileMap) (name : List ℕ) → (first (without name held) ≡ first held) ⊎ (first (without name held) ≡ Err (Read name))
 
--- a count that rose in the later or in the earlier part of a call rose in the call
-pub Rose-later : (a b c : ℕ) → a ≤ b → Rose b c → Rose a c
-Rose-later a b c low rose = omega arith
+-- a refusal of the second step, where the first found what is due
+refused_second : {A B : Type 0} (first : FileMap → Finding A) (next : A → FileMap → Finding B) (held : FileMap) (a : A) (refusal : Refusal) → first held ≡ Ok a → next a held ≡ Err refusal → and_then (first held) (λ x. next x held) ≡ Err refusal
+refused_second first next held a refusal due is = ap (λ r. and_then r (λ x. next x held)) due ∙ is
 
-pub Rose-further : (a b c : ℕ) → b ≤ c → Rose a b → Rose a c
-Rose-further a b c high rose = omega arith
+unread_second : {A B : Type 0} (first : FileMap → Finding A) (next : A → FileMap → Finding B) → IsSteady first → (held : FileMap) (a : A) (name : List ℕ) → first held ≡ Ok a → next a (without name held) ≡ Err (Read name) →
+    and_then (first (without name held)) (λ x. next x (without name held)) ≡ Err (Read name)
+unread_second first next steady held a name due is =
+    elim (steady held name) [
+      | inl same ↦ refused_second first next (without name held) a (Read name) (same ∙ due) is
+      | inr stops ↦ refused_first first next (without name held) (Read name) stops
+    ]
+
+cause_second : {A B : Type 0} (first : FileMap → Finding A) (next : A → FileMap → Finding B) → IsSteady first → (files : Option FileMap) (failed : Type 0) (a : A) (refusal : Refusal) → IsDue first files a → RefusalCause (next a) files failed refusal →
+    RefusalCause (λ held. and_then (first held) (λ x. next x held)) files failed refusal
+cause_second first next steady None failed a (Read name) due cause = cause
+cause_second first next steady (Some held) failed a (Read name) due cause = elim cause [ inl is ↦ inl (refused_second first next held a (Read name) due is) | inr x ↦ inr (x.0, unread_second first next steady held a name due x.1) ]
+cause_second first next steady None failed a (TooLong name limit) due cause = cause
+cause_second first next steady (Some held) failed a (TooLong name limit) due cause = refused_second first next held a (TooLong name limit) due cause
+cause_second first next steady None failed a (Platform error) due cause = tt
+cause_second first next steady (Some held) failed a (Platform error) due cause = refused_second first next held a (Platform error) due cause
+cause_second first next steady None failed a (Images error) due cause = tt
+cause_second first next steady (Some held) failed a (Images error) due cause = refused_second first next held a (Images error) due cause
+cause_second first next steady None failed a (Schedule error) due cause = tt
+cause_second first next steady (Some held) failed a (Schedule error) due cause = refused_second first next held a (Schedule error) due cause
+cause_second first next steady None failed a (NotBuilt name) due cause = tt
+cause_second first next steady (Some held) failed a (NotBuilt name) due cause = refused_second first next held a (NotBuilt name) due cause
+
+pub stop_second : {A B : Type 0} (first : FileMap → Finding A) (next : A → FileMap → Finding B) → IsSteady first → (files : Option FileMap) (failed : Type 0) (a : A) (fault : Fault) → IsDue first files a → LoadCause (next a) files failed fault →
+    LoadCause (λ held. and_then (first held) (λ x. next x held)) files failed fault
+stop_second first next steady files failed a (Refused refusal) due cause = cause_second first next steady files failed a refusal due cause
+stop_second first next steady files failed a Write due cause = cause
+stop_second first next steady files failed a Save due cause = cause
+stop_second first next steady files failed a Memory due cause = tt
+
+-- the load of one file is steady: it looks at one name alone
+loaded_without : (b : Bool) (limit : ℕ) (name other : List ℕ) (held : Option (List ℕ)) → (b ≡ true → name ≡ other) → (loaded limit name (if b then None else held) ≡ loaded limit name held) ⊎ (loaded limit name (if b then None else held) ≡ Err (Read other))
+loaded_without true limit name other held is = let f : List ℕ → Finding (List ℕ) = λ n. Err (Read n) in inr (ap f (is refl))
+loaded_without false limit name other held is = inl refl
+
+pub load_steady : (limit : ℕ) (name : List ℕ) → IsSteady (λ held. loaded limit name (held name))
+load_steady limit name held other = loaded_without (bytes_eq name other) limit name other (held name) (λ e. (bytes_eq-Decides name other).0 e)
+
+pub file_steady : {A : Type 0} (limit : ℕ) (name : List ℕ) (read : List ℕ → Finding A) → IsSteady (file_due limit name read)
+file_steady limit name read held other =
+    elim (load_steady limit name held other) [ inl same ↦ inl (ap (λ r. and_then r read) same) | inr stops ↦ inr (ap (λ r. and_then r read) stops) ]
+
+-- what stops the reading of a file that was loaded is the cause of a step that finds the same in any files
+read_cause : {A : Type 0} (found : Finding A) (files : Option FileMap) (failed : Type 0) (refusal : Refusal) → RefusedReading found refusal → RefusalCause (λ _. found) files failed refusal
+read_cause found files failed (Read name) stops = absurd stops
+read_cause found files failed (TooLong name limit) stops = absurd stops
+read_cause found None failed (Platform error) stops = tt
+read_cause found (Some held) failed (Platform error) stops = stops
+read_cause found None failed (Images error) stops = tt
+read_cause found (Some held) failed (Images error) stops = stops
+read_cause found None failed (Schedule error) stops = tt
+read_cause found (Some held) failed (Schedule error) stops = stops
+read_cause found None failed (NotBuilt name) stops = tt
+read_cause found (Some held) failed (NotBuilt name) stops = stops
+
+pub stop_cause : {A : Type 0} (found : Finding A) (files : Option FileMap) (failed : Type 0) (fault : Fault) → StopsReading found fault → LoadCause (λ _. found) files failed fault
+stop_cause found files failed (Refused refusal) stops = read_cause found files failed refusal stops
+stop_cause found files failed Write stops = stops
+stop_cause found files failed Save stops = stops
+stop_cause found files failed Memory stops = tt
+
+found_due : {A : Type 0} (found : Finding A) (files : Option FileMap) (a : A) → found ≡ Ok a → IsDue (λ _. found) files a
+found_due found None a is = tt
+found_due found (Some held) a is = is
+
+-- a file that was loaded and read: what is found is due, and what stops there is the cause
+pub file_found : {A V : Type 0} (view : V → A) (limit : ℕ) (name : List ℕ) (read : List ℕ → Finding A) (files : Option FileMap) (bytes : List ℕ) (r : Result V Fault) →
+    IsDue (λ held. loaded limit name (held name)) files bytes → IfOk r (λ value. read bytes ≡ Ok (view value)) → IfOk r (λ value. IsDue (file_due limit name read) files (view value))
+file_found view limit name read files bytes (Ok value) due found = IsDue-then (λ held. loaded limit name (held name)) (λ bs _. read bs) files bytes (view value) due (found_due (read bytes) files (view value) found)
+file_found view limit name read files bytes (Err stopped) due found = tt
+
+pub file_stops : {A V : Type 0} (limit : ℕ) (name : List ℕ) (read : List ℕ → Finding A) (files : Option FileMap) (failed : Type 0) (bytes : List ℕ) (r : Result V Fault) →
+    IsDue (λ held. loaded limit name (held name)) files bytes → IfErr r (StopsReading (read bytes)) → IfErr r (LoadCause (file_due limit name read) files failed)
+file_stops limit name read files failed bytes (Ok value) due stops = tt
+file_stops limit name read files failed bytes (Err stopped) due stops =
+    stop_second (λ held. loaded limit name (held name)) (λ bs _. read bs) (load_steady limit name) files failed bytes stopped due (stop_cause (read bytes) files failed stopped stops)
+
+-- a load that failed earlier or later failed in the whole call
+wider_cause : {A : Type 0} (judge : FileMap → Finding A) (files : Option FileMap) (f g : Type 0) (refusal : Refusal) → (f → g) → RefusalCause judge files f refusal → RefusalCause judge files g refusal
+wider_cause judge None f g (Read name) wider cause = wider cause
+wider_cause judge (Some held) f g (Read name) wider cause = elim cause [ inl is ↦ inl is | inr x ↦ inr (wider x.0, x.1) ]
+wider_cause judge None f g (TooLong name limit) wider cause = wider cause
+wider_cause judge (Some held) f g (TooLong name limit) wider cause = cause
+wider_cause judge files f g (Platform error) wider cause = cause
+wider_cause judge files f g (Images error) wider cause = cause
+wider_cause judge files f g (Schedule error) wider cause = cause
+wider_cause judge files f g (NotBuilt name) wider cause = cause
+
+pub wider_stop : {A : Type 0} (judge : FileMap → Finding A) (files : Option FileMap) (f g : Type 0) (fault : Fault) → (f → g) → LoadCause judge files f fault → LoadCause judge files g fault
+wider_stop judge files f g (Refused refusal) wider cause = wider_cause judge files f g refusal wider cause
+wider_stop judge files f g Write wider cause = cause
+wider_stop judge files f g Save wider cause = cause
+wider_stop judge files f g Memory wider cause = tt
+
+-- the second step, in a later part of the call: what it finds is due, and what stops it is the cause
+pub then_found : {A B V : Type 0} (view : V → B) (first : FileMap → Finding A) (next : A → FileMap → Finding B) (files files' : Option FileMap) (a : A) (r : Result V Fault) → files' ≡ files → IsDue first files a →
+    IfOk r (λ value. IsDue (next a) files' (view value)) → IfOk r (λ value. IsDue (λ held. and_then (first held) (λ x. next x held)) files (view value))
+then_found view first next files files' a (Ok value) stay due found =
+    let P : Option FileMap → Type 0 = λ fs. IsDue (next a) fs (view value) in IsDue-then first next files a (view value) due (subst P stay found)
+then_found view first next files files' a (Err stopped) stay due found = tt
+
+pub then_stops : {A B V : Type 0} (first : FileMap → Finding A) (next : A → FileMap → Finding B) → IsSteady first → (files files' : Option FileMap) (f g : Type 0) (a : A) (r : Result V Fault) → files' ≡ files → (f → g) → IsDue first files a →
+    IfErr r (LoadCause (next a) files' f) → IfErr r (LoadCause (λ held. and_then (first held) (λ x. next x held)) files g)
+then_stops first next steady files files' f g a (Ok value) stay wider due stops = tt
+then_stops first next steady files files' f g a (Err stopped) stay wider due stops =
+    let P : Option FileMap → Type 0 = λ fs. LoadCause (next a) fs f stopped in
+    stop_second first next steady files g a stopped due (wider_stop (next a) files f g stopped wider (subst P stay stops))
+
+-- the plan once the schedule is there
+
+started_is : (p : Plan) → start_refusal p.setup p.images ≡ None → started p ≡ Ok p
+started_is p none = ap (λ o. relocated_or o p) none
+
+started_not : (p : Plan) (error : RelocError) → start_refusal p.setup p.images ≡ Some error → started p ≡ Err (Images (fault.NotRelocated error))
+started_not p error some = ap (λ o. relocated_or o p) some
+
+pub plan_due_with : (names : Step) (setup : SetupData) (images : List ImageContents) (files : Option FileMap) (actors : List ℕ) → start_refusal setup images ≡ None → IsDue (schedule_due names setup) files actors → IsDue (plan_with names setup images) files (plan setup images actors)
+plan_due_with names setup images None actors none is = tt
+plan_due_with names setup images (Some held) actors none is = ap (λ r. and_then r (λ xs. started (plan setup images xs))) is ∙ started_is (plan setup images actors) none
+
+-- and the refusal of a relocation
+pub not_relocated : (names : Step) (setup : SetupData) (images : List ImageContents) (files : Option FileMap) (failed : Type 0) (actors : List ℕ) (error : RelocError) → start_refusal setup images ≡ Some error → IsDue (schedule_due names setup) files actors →
+    LoadCause (plan_with names setup images) files failed (Refused (Images (fault.NotRelocated error)))
+not_relocated names setup images None failed actors error some is = tt
+not_relocated names setup images (Some held) failed actors error some is = ap (λ r. and_then r (λ xs. started (plan setup images xs))) is ∙ started_not (plan setup images actors) error some

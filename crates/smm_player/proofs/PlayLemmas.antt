@@ -1,103 +1,187 @@
--- What a command's end at a fault comes to, fault by fault.
-use Rattle.std.proofs.Common.{◌≡◌, ◌≢◌, ℕ, ◌<◌, ◌⊎◌, Bool, true, false, List, [], ◌∷◌, Option, None, Some, Result, Ok, Err, IfSome, IfErr, OnOk, IsOk, refl, ap, sym, subst, ◌∙◌, arith, inl, inr}
+-- What a command's end comes to: status by status, fault by fault.
+use Rattle.std.proofs.Common.{◌≡◌, ◌≢◌, ℕ, ◌<◌, ◌⊎◌, Bool, true, false, List, [], ◌∷◌, length, All, Option, None, Some, Result, Ok, Err, IfSome, IfErr, OnOk, IsOk, refl, ap, sym, subst, ◌∙◌, arith, inl, inr}
+use Rattle.std.specs.Option.{option_map}
 use Rattle.smm_base.specs.Sink.{appended, GainsPrefix}
-use Rattle.smm_base.specs.Store.{FileMap}
-use Rattle.smm_player.specs.declared.fault.Fault.{Fault}
-use Rattle.smm_player.specs.declared.fault.Fault.TheVariants.{Usage, Refused, Write, Save, Memory}
-use Rattle.smm_player.specs.declared.refusal.Refusal.{Refusal}
-use Rattle.smm_player.specs.declared.refusal.Refusal.TheVariants.{Read, TooLong, Platform, Images, Schedule, NotBuilt}
-use Rattle.smm_player.specs.Refusal.{refusal_status, memory_line}
-use Rattle.smm_player.specs.Fault.{status_of, fault_line}
-use Rattle.smm_player.specs.Finish.{GainsBoth, Tells, TellsOrRunsOut, Finishes}
-use Rattle.smm_player.specs.Replay.{EndsReplay, UnlessSaved}
-use Rattle.smm_player.specs.Plan.{Plan, IsPlayable, labels_of, world_of, report_of, Saves}
+use Rattle.smm_base.specs.Store.{FileMap, ChangesOnly}
 use Rattle.save_state_map.specs.Images.{ImageContents}
 use Rattle.sync_words.specs.declared.label.Label.{Label}
+use Rattle.cpu_regs.specs.Registers.{Registers}
+use Rattle.cpu_table.specs.Data.{SetupData}
 use Rattle.rendezvous_core.specs.Platform.{Platform as PlatformOf}
-use Rattle.rendezvous_core.specs.Setups.{platform_of}
+use Rattle.rendezvous_core.specs.Setups.{platform_of, is_built, is_elected, is_traditional, is_one_wave, are_built_handlers}
+use Rattle.std.proofs.lemmas.Bool.{and_parts, eqb-true}
+use Rattle.std.proofs.lemmas.List.Elements.{All-head}
+use Rattle.std.specs.Prelude.{◌==◌, ◌&&◌, IsTrue, IsSomeAnd, MatchOption}
+use Rattle.rendezvous_core.specs.Starts.{first_registers, first_registers_of}
 use Rattle.rendezvous_core.specs.Worlds.{last_image}
 use Rattle.rendezvous_core.specs.Machine.{IsRun, beginning, machine_after, member, resumed_image}
-use Rattle.smm_player.specs.Verdict.{Finding, due, told_due, RefusalCause, HasCause, IsDue}
-use Rattle.smm_player.specs.Words.{is_step_form}
-use Rattle.smm_player.specs.Play.{is_exit_status, IsPlayed, Performs, StopsAt, WritesPart, WritesAll, WroteBefore, IsFaulted, FailsOutside, RunsOut, IsDueStatus}
+use Rattle.smm_player.specs.declared.command.Step.{Step}
+use Rattle.smm_player.specs.declared.command.Command.{Command}
+use Rattle.smm_player.specs.declared.command.Command.TheVariants as command
+use Rattle.smm_player.specs.declared.fault.Fault.{Fault}
+use Rattle.smm_player.specs.declared.fault.Fault.TheVariants.{Refused, Write, Save, Memory}
+use Rattle.smm_player.specs.declared.refusal.Refusal.{Refusal}
+use Rattle.smm_player.specs.declared.refusal.Refusal.TheVariants.{Read, TooLong, Platform, Images, Schedule, NotBuilt}
+use Rattle.smm_player.specs.Due.{Finding, and_then, plan_due, IsDue, RefusalCause}
+use Rattle.smm_player.specs.Ending.{GainsBoth, Tells, TellsOrRunsOut, Finishes, EndsReplay, UnlessSaved}
+use Rattle.smm_player.specs.Loading.{LoadCause}
+use Rattle.smm_player.specs.Outcome.{Outcome, image_saving, step_outcome, due, saved_name, IsSaved}
+use Rattle.smm_player.specs.Performing.{Steps, Performs, StopsAt, WroteBefore}
+use Rattle.smm_player.specs.Plan.{Plan, IsPlayable, registers_of, labels_of, world_of, report_of}
+use Rattle.smm_player.specs.Play.{is_exit_status, IsDone, IsStepped, IsPlayed, WritesPart, WritesAll, IsFaulted, FailsOutside, RunsOut, UsageRunsOut, IsDueStatus, ChangesOnlySaved, Obeys}
+use Rattle.smm_player.specs.Refusal.{refusal_status, refusal_line, usage_line, memory_line}
+use Rattle.smm_player.proofs.LoadLemmas.{cause_first}
 
-told_status : (write_failed : Type 0) (before after : Option (List ℕ)) (words : List (List ℕ)) (fault : Fault) (n : ℕ) → TellsOrRunsOut write_failed before after words fault n → (n ≡ status_of fault) ⊎ (n ≡ 8)
-told_status write_failed before after words fault n ends = elim ends [ inl x ↦ inl x.0 | inr x ↦ inr x.0 ]
+-- the status of a refusal
 
--- a command ends with its fault's status, or with that of no memory
-pub end_status : (write_failed : Type 0) (before after : Option (List ℕ)) (words : List (List ℕ)) (n : ℕ) (fault : Fault) → Finishes write_failed before after words n fault → (n ≡ status_of fault) ⊎ (n ≡ 8)
-end_status write_failed before after words n Usage ends = told_status write_failed before after words Usage n ends
-end_status write_failed before after words n (Refused refusal) ends = told_status write_failed before after words (Refused refusal) n ends
-end_status write_failed before after words n Write ends = inl ends.0
-end_status write_failed before after words n Save ends = inl ends.0
-end_status write_failed before after words n Memory ends = inl ends.0
-
--- a status other than 8 is the fault's
-status_is : (n m : ℕ) → (n ≡ m) ⊎ (n ≡ 8) → n ≢ 8 → m ≡ n
-status_is n m ends apart = elim ends [ inl is ↦ sym is | inr is ↦ absurd (apart is) ]
-
--- the status of a refused file is none of those of the words and of the outside
 record IsRefusalStatus (n : ℕ) : Type 0 where
+  pub exits : is_exit_status n ≡ true
   pub above : 1 < n
   pub not_7 : n ≢ 7
   pub not_8 : n ≢ 8
 
 refusal_status_is : (refusal : Refusal) → IsRefusalStatus (refusal_status refusal)
-refusal_status_is (Read input) = record { above = omega arith; not_7 = λ e. omega (arith, e); not_8 = λ e. omega (arith, e) }
-refusal_status_is (TooLong input) = record { above = omega arith; not_7 = λ e. omega (arith, e); not_8 = λ e. omega (arith, e) }
-refusal_status_is (Platform error) = record { above = omega arith; not_7 = λ e. omega (arith, e); not_8 = λ e. omega (arith, e) }
-refusal_status_is (Images fault) = record { above = omega arith; not_7 = λ e. omega (arith, e); not_8 = λ e. omega (arith, e) }
-refusal_status_is (Schedule error) = record { above = omega arith; not_7 = λ e. omega (arith, e); not_8 = λ e. omega (arith, e) }
-refusal_status_is (NotBuilt input) = record { above = omega arith; not_7 = λ e. omega (arith, e); not_8 = λ e. omega (arith, e) }
+refusal_status_is (Read name) = record { exits = refl; above = omega arith; not_7 = λ e. omega (arith, e); not_8 = λ e. omega (arith, e) }
+refusal_status_is (TooLong name limit) = record { exits = refl; above = omega arith; not_7 = λ e. omega (arith, e); not_8 = λ e. omega (arith, e) }
+refusal_status_is (Platform error) = record { exits = refl; above = omega arith; not_7 = λ e. omega (arith, e); not_8 = λ e. omega (arith, e) }
+refusal_status_is (Images fault) = record { exits = refl; above = omega arith; not_7 = λ e. omega (arith, e); not_8 = λ e. omega (arith, e) }
+refusal_status_is (Schedule error) = record { exits = refl; above = omega arith; not_7 = λ e. omega (arith, e); not_8 = λ e. omega (arith, e) }
+refusal_status_is (NotBuilt name) = record { exits = refl; above = omega arith; not_7 = λ e. omega (arith, e); not_8 = λ e. omega (arith, e) }
 
-refusal_exits : (refusal : Refusal) → is_exit_status (refusal_status refusal) ≡ true
-refusal_exits (Read input) = refl
-refusal_exits (TooLong input) = refl
-refusal_exits (Platform error) = refl
-refusal_exits (Images fault) = refl
-refusal_exits (Schedule error) = refl
-refusal_exits (NotBuilt input) = refl
+-- a status that is none of those of the refusals
+unfaulted : (n : ℕ) {P : Type 0} → (n ≢ 2) → (n ≢ 3) → (n ≢ 4) → (n ≢ 6) → (n ≢ 9) → (n ≡ 2) ⊎ (n ≡ 3) ⊎ (n ≡ 4) ⊎ (n ≡ 6) ⊎ (n ≡ 9) → P
+unfaulted n a b c d e is =
+    elim is [
+      | inl x ↦ absurd (a x)
+      | inr is ↦ elim is [
+        | inl x ↦ absurd (b x)
+        | inr is ↦ elim is [
+          | inl x ↦ absurd (c x)
+          | inr is ↦ elim is [ inl x ↦ absurd (d x) | inr x ↦ absurd (e x) ]
+        ]
+      ]
+    ]
 
-exits : (fault : Fault) → is_exit_status (status_of fault) ≡ true
-exits Usage = refl
-exits (Refused refusal) = refusal_exits refusal
-exits Write = refl
-exits Save = refl
-exits Memory = refl
+-- the status that is due
 
-pub end_exits : (n : ℕ) (fault : Fault) → (n ≡ status_of fault) ⊎ (n ≡ 8) → is_exit_status n ≡ true
-end_exits n fault ends = elim ends [ inl is ↦ ap is_exit_status is ∙ exits fault | inr is ↦ ap is_exit_status is ]
+at_outcome : (finding : Finding Outcome) (outcome : Outcome) (n : ℕ) → finding ≡ Ok outcome → (n ≡ 0) ⊎ (n ≡ 7) ⊎ (n ≡ 8) → IsDueStatus finding n
+at_outcome finding outcome n is ends = let P : Finding Outcome → Type 0 = λ x. IsDueStatus x n in subst P (sym is) ends
 
-never_0 : (fault : Fault) → status_of fault ≢ 0
-never_0 Usage is = omega arith
-never_0 (Refused refusal) is = let known = refusal_status_is refusal in omega (arith, known.above, is)
-never_0 Write is = omega arith
-never_0 Save is = omega arith
-never_0 Memory is = omega arith
+outcome_due : (judge : FileMap → Finding Outcome) (files : Option FileMap) (outcome : Outcome) (n : ℕ) → IsDue judge files outcome → (n ≡ 0) ⊎ (n ≡ 7) ⊎ (n ≡ 8) → IfSome files (λ held. IsDueStatus (judge held) n)
+outcome_due judge None outcome n is ends = tt
+outcome_due judge (Some held) outcome n is ends = at_outcome (judge held) outcome n is ends
 
--- no fault ends with 0
-pub end_not_0 : (n : ℕ) (fault : Fault) → (n ≡ status_of fault) ⊎ (n ≡ 8) → n ≢ 0
-end_not_0 n fault ends zero = elim ends [ inl is ↦ never_0 fault (sym is ∙ zero) | inr is ↦ omega (arith, is, zero) ]
+at_refusal : (finding : Finding Outcome) (refusal : Refusal) → finding ≡ Err refusal → IsDueStatus finding (refusal_status refusal)
+at_refusal finding refusal is = let P : Finding Outcome → Type 0 = λ x. IsDueStatus x (refusal_status refusal) in subst P (sym is) (inl refl)
 
-usage_at : (words : List (List ℕ)) (files : Option FileMap) (l w s : Type 0) (fault : Fault) → StopsAt words files l w s fault → status_of fault ≡ 1 → is_step_form words ≡ false
-usage_at words files l w s Usage stops is = stops
-usage_at words files l w s (Refused refusal) stops is = let known = refusal_status_is refusal in absurd (omega (arith, known.above, is))
-usage_at words files l w s Write stops is = absurd (omega (arith, is))
-usage_at words files l w s Save stops is = absurd (omega (arith, is))
-usage_at words files l w s Memory stops is = absurd (omega (arith, is))
+-- where no load failed, a refusal is what is due
+refusal_is_due : (judge : FileMap → Finding Outcome) (held : FileMap) (l : Type 0) (refusal : Refusal) → (l → ⊥) → RefusalCause judge (Some held) l refusal → judge held ≡ Err refusal
+refusal_is_due judge held l (Read name) unfailed cause = elim cause [ inl is ↦ is | inr x ↦ absurd (unfailed x.0) ]
+refusal_is_due judge held l (TooLong name limit) unfailed cause = cause
+refusal_is_due judge held l (Platform error) unfailed cause = cause
+refusal_is_due judge held l (Images fault) unfailed cause = cause
+refusal_is_due judge held l (Schedule error) unfailed cause = cause
+refusal_is_due judge held l (NotBuilt name) unfailed cause = cause
 
-pub end_usage_only : (words : List (List ℕ)) (files : Option FileMap) (l w s : Type 0) (n : ℕ) (fault : Fault) → StopsAt words files l w s fault → (n ≡ status_of fault) ⊎ (n ≡ 8) → n ≡ 1 → is_step_form words ≡ false
-end_usage_only words files l w s n fault stops ends one = usage_at words files l w s fault stops (status_is n (status_of fault) ends (λ e. omega (arith, e, one)) ∙ one)
+refusal_due : (judge : FileMap → Finding Outcome) (files : Option FileMap) (l : Type 0) (refusal : Refusal) → RefusalCause judge files l refusal → (l → ⊥) → IfSome files (λ held. IsDueStatus (judge held) (refusal_status refusal))
+refusal_due judge None l refusal cause unfailed = tt
+refusal_due judge (Some held) l refusal cause unfailed = at_refusal (judge held) refusal (refusal_is_due judge held l refusal unfailed cause)
 
-formed : (b : Bool) {P : Type 0} → b ≡ true → b ≡ false → P
-formed b holds fails = cc
+memory_status : (finding : Finding Outcome) → IsDueStatus finding 8
+memory_status (Ok outcome) = inr (inr refl)
+memory_status (Err refusal) = inr refl
 
-pub end_usage : (words : List (List ℕ)) (files : Option FileMap) (l w s : Type 0) (n : ℕ) (fault : Fault) → StopsAt words files l w s fault → (n ≡ status_of fault) ⊎ (n ≡ 8) → is_step_form words ≡ false → (n ≡ 1) ⊎ (n ≡ 8)
-end_usage words files l w s n Usage stops ends unformed = ends
-end_usage words files l w s n (Refused refusal) stops ends unformed = formed (is_step_form words) stops.0 unformed
-end_usage words files l w s n Write stops ends unformed = formed (is_step_form words) stops.0 unformed
-end_usage words files l w s n Save stops ends unformed = formed (is_step_form words) stops.0 unformed
-end_usage words files l w s n Memory stops ends unformed = elim ends [ inl is ↦ inr is | inr is ↦ inr is ]
+memory_due : (judge : FileMap → Finding Outcome) (files : Option FileMap) → IfSome files (λ held. IsDueStatus (judge held) 8)
+memory_due judge None = tt
+memory_due judge (Some held) = memory_status (judge held)
+
+-- where nothing failed and an outcome is due
+
+complete_with : (judge : FileMap → Finding Outcome) (files : Option FileMap) (n : ℕ) → (n ≡ 0) ⊎ (n ≡ 8) → IfSome files (λ held. IsOk (judge held) → (n ≡ 0) ⊎ (n ≡ 8))
+complete_with judge None n ends = tt
+complete_with judge (Some held) n ends = λ ok. ends
+
+ok_apart : (finding : Finding Outcome) (refusal : Refusal) → IsOk finding → finding ≡ Err refusal → ⊥
+ok_apart (Ok outcome) refusal ok is = cc
+ok_apart (Err other) refusal ok is = cc
+
+refused_complete : (judge : FileMap → Finding Outcome) (files : Option FileMap) (l : Type 0) (refusal : Refusal) (n : ℕ) → RefusalCause judge files l refusal → (l → ⊥) → IfSome files (λ held. IsOk (judge held) → (n ≡ 0) ⊎ (n ≡ 8))
+refused_complete judge None l refusal n cause unfailed = tt
+refused_complete judge (Some held) l refusal n cause unfailed = λ ok. absurd (ok_apart (judge held) refusal ok (refusal_is_due judge held l refusal unfailed cause))
+
+-- status by status
+
+at_0 : (asked : Command) (files files' : Option FileMap) (l w s : Type 0) (before after : Option (List ℕ)) → IsDone asked files files' before after → IsPlayed asked files files' before after → ChangesOnly (saved_name asked) files files' → Obeys asked files files' l w s before after 0
+at_0 asked files files' l w s before after done played others = record {
+  exits = refl;
+  not_usage = λ e. omega (arith, e);
+  done = λ _. done;
+  played = λ _. played;
+  faulted = λ is. unfaulted 0 (λ e. omega (arith, e)) (λ e. omega (arith, e)) (λ e. omega (arith, e)) (λ e. omega (arith, e)) (λ e. omega (arith, e)) is;
+  is_due = λ _. outcome_due (due asked) files done.outcome 0 done.is_due (inl refl);
+  complete = λ _ _ _. complete_with (due asked) files 0 (inl refl);
+  outside = λ e. absurd (omega (arith, e));
+  runs_out = λ e. absurd (omega (arith, e));
+  unsaved = λ apart _. absurd (apart refl);
+  others_stay = others;
+}
+
+at_refused : (asked : Command) (files files' : Option FileMap) (l w s : Type 0) (before after : Option (List ℕ)) (refusal : Refusal) → RefusalCause (due asked) files l refusal → Tells w before after (refusal_line refusal) → files' ≡ files → ChangesOnly (saved_name asked) files files' →
+    Obeys asked files files' l w s before after (refusal_status refusal)
+at_refused asked files files' l w s before after refusal cause line stay others =
+    let known = refusal_status_is refusal in
+    record {
+      exits = known.exits;
+      not_usage = λ e. omega (arith, e, known.above);
+      done = λ e. absurd (omega (arith, e, known.above));
+      played = λ e. absurd (omega (arith, e, known.above));
+      faulted = λ _. record { refusal = refusal; status_is = refl; cause = cause; line = line };
+      is_due = λ unfailed. refusal_due (due asked) files l refusal cause unfailed;
+      complete = λ loads _ _. refused_complete (due asked) files l refusal (refusal_status refusal) cause loads;
+      outside = λ e. absurd (known.not_7 e);
+      runs_out = λ e. absurd (known.not_8 e);
+      unsaved = λ _ _. stay;
+      others_stay = others;
+    }
+
+outside_due : (asked : Command) (files : Option FileMap) (w s stays : Type 0) (before after : Option (List ℕ)) → FailsOutside asked files w s stays before after → IfSome files (λ held. IsDueStatus (due asked held) 7)
+outside_due asked files w s stays before after fails =
+    elim fails [
+      | inl x ↦ outcome_due (due asked) files x.2.0 7 x.2.1 (inr (inl refl))
+      | inr x ↦ outcome_due (due asked) files x.1.0 7 x.1.1 (inr (inl refl))
+    ]
+
+at_7 : (asked : Command) (files files' : Option FileMap) (l w s : Type 0) (before after : Option (List ℕ)) → FailsOutside asked files w s (files' ≡ files) before after → ChangesOnly (saved_name asked) files files' → Obeys asked files files' l w s before after 7
+at_7 asked files files' l w s before after fails others = record {
+  exits = refl;
+  not_usage = λ e. omega (arith, e);
+  done = λ e. absurd (omega (arith, e));
+  played = λ e. absurd (omega (arith, e));
+  faulted = λ is. unfaulted 7 (λ e. omega (arith, e)) (λ e. omega (arith, e)) (λ e. omega (arith, e)) (λ e. omega (arith, e)) (λ e. omega (arith, e)) is;
+  is_due = λ _. outside_due asked files w s (files' ≡ files) before after fails;
+  complete = λ _ writes saves. absurd (elim fails [ inl x ↦ writes x.0 | inr x ↦ saves x.0 ]);
+  outside = λ _. fails;
+  runs_out = λ e. absurd (omega (arith, e));
+  unsaved = λ _ apart. absurd (apart refl);
+  others_stay = others;
+}
+
+at_8 : (asked : Command) (files files' : Option FileMap) (l w s : Type 0) (before after : Option (List ℕ)) → RunsOut asked files l before after → files' ≡ files → ChangesOnly (saved_name asked) files files' → Obeys asked files files' l w s before after 8
+at_8 asked files files' l w s before after out stay others = record {
+  exits = refl;
+  not_usage = λ e. omega (arith, e);
+  done = λ e. absurd (omega (arith, e));
+  played = λ e. absurd (omega (arith, e));
+  faulted = λ is. unfaulted 8 (λ e. omega (arith, e)) (λ e. omega (arith, e)) (λ e. omega (arith, e)) (λ e. omega (arith, e)) (λ e. omega (arith, e)) is;
+  is_due = λ _. memory_due (due asked) files;
+  complete = λ _ _ _. complete_with (due asked) files 8 (inr refl);
+  outside = λ e. absurd (omega (arith, e));
+  runs_out = λ _. out;
+  unsaved = λ _ _. stay;
+  others_stay = others;
+}
+
+-- fault by fault
 
 -- a line that is told after nothing was written
 tells_all : (f g : Type 0) → (f → g) → (before middle after : Option (List ℕ)) (line : List ℕ) → middle ≡ before → Tells f middle after line → Tells g before after line
@@ -105,221 +189,269 @@ tells_all f g wider before middle after line is tells =
     let P : Option (List ℕ) → Type 0 = λ x. GainsPrefix x after line in
     (subst P is tells.0, elim tells.1 [ inl e ↦ inl (e ∙ ap (λ x. appended x line) is) | inr h ↦ inr (wider h) ])
 
-fault_told : (words : List (List ℕ)) (files : Option FileMap) (l f w s : Type 0) → (f → w) → (before middle after : Option (List ℕ)) (n : ℕ) (fault : Fault) → StopsAt words files l w s fault →
-    middle ≡ before → TellsOrRunsOut f middle after words fault n → n ≢ 8 → IsFaulted words files l w s before after n
-fault_told words files l f w s wider before middle after n fault stops is ends apart =
-    elim ends [
-      | inl x ↦ record { fault = fault; status_is = sym x.0; cause = stops; line = tells_all f w wider before middle after (fault_line words fault) is x.1 }
-      | inr x ↦ absurd (apart x.0)
-    ]
-
-not_8 : (n : ℕ) → (n ≡ 1) ⊎ (n ≡ 2) ⊎ (n ≡ 3) ⊎ (n ≡ 4) ⊎ (n ≡ 6) ⊎ (n ≡ 9) → n ≢ 8
-not_8 n one is =
-    elim one [
-      | inl e ↦ omega (arith, e, is)
-      | inr two ↦ elim two [
-        | inl e ↦ omega (arith, e, is)
-        | inr three ↦ elim three [
-          | inl e ↦ omega (arith, e, is)
-          | inr four ↦ elim four [
-            | inl e ↦ omega (arith, e, is)
-            | inr six ↦ elim six [ inl e ↦ omega (arith, e, is) | inr e ↦ omega (arith, e, is) ]
-          ]
-        ]
-      ]
-    ]
-
-not_7 : (n : ℕ) → (n ≡ 1) ⊎ (n ≡ 2) ⊎ (n ≡ 3) ⊎ (n ≡ 4) ⊎ (n ≡ 6) ⊎ (n ≡ 9) → n ≢ 7
-not_7 n one is =
-    elim one [
-      | inl e ↦ omega (arith, e, is)
-      | inr two ↦ elim two [
-        | inl e ↦ omega (arith, e, is)
-        | inr three ↦ elim three [
-          | inl e ↦ omega (arith, e, is)
-          | inr four ↦ elim four [
-            | inl e ↦ omega (arith, e, is)
-            | inr six ↦ elim six [ inl e ↦ omega (arith, e, is) | inr e ↦ omega (arith, e, is) ]
-          ]
-        ]
-      ]
-    ]
-
--- the statuses 1, 2, 3, 4, 6 and 9 tell their fault
-pub end_faulted : (words : List (List ℕ)) (files : Option FileMap) (l f w s : Type 0) → (f → w) → (before middle after : Option (List ℕ)) (n : ℕ) (fault : Fault) → StopsAt words files l w s fault →
-    WroteBefore words files before middle fault → Finishes f middle after words n fault → (n ≡ 1) ⊎ (n ≡ 2) ⊎ (n ≡ 3) ⊎ (n ≡ 4) ⊎ (n ≡ 6) ⊎ (n ≡ 9) → IsFaulted words files l w s before after n
-end_faulted words files l f w s wider before middle after n Usage stops wrote ends one = fault_told words files l f w s wider before middle after n Usage stops wrote ends (not_8 n one)
-end_faulted words files l f w s wider before middle after n (Refused refusal) stops wrote ends one = fault_told words files l f w s wider before middle after n (Refused refusal) stops wrote ends (not_8 n one)
-end_faulted words files l f w s wider before middle after n Write stops wrote ends one = absurd (not_7 n one ends.0)
-end_faulted words files l f w s wider before middle after n Save stops wrote ends one = absurd (not_7 n one ends.0)
-end_faulted words files l f w s wider before middle after n Memory stops wrote ends one = absurd (not_8 n one ends.0)
-
-at_refusal : (finding : Finding Plan) (refusal : Refusal) (n : ℕ) → finding ≡ Err refusal → (n ≡ refusal_status refusal) ⊎ (n ≡ 8) → IsDueStatus finding n
-at_refusal finding refusal n is ends = let P : Finding Plan → Type 0 = λ x. IsDueStatus x n in subst P (sym is) ends
-
--- where no load failed, a refusal is what is due
-refusal_is_due : (finding : Finding Plan) (l : Type 0) (refusal : Refusal) → (l → ⊥) → RefusalCause (Some finding) l refusal → finding ≡ Err refusal
-refusal_is_due finding l (Read input) unfailed cause = elim cause [ inl is ↦ is | inr failed ↦ absurd (unfailed failed) ]
-refusal_is_due finding l (TooLong input) unfailed cause = cause
-refusal_is_due finding l (Platform error) unfailed cause = cause
-refusal_is_due finding l (Images fault) unfailed cause = cause
-refusal_is_due finding l (Schedule error) unfailed cause = cause
-refusal_is_due finding l (NotBuilt input) unfailed cause = cause
-
-at_schedule : (finding : Finding Plan) (schedule : Plan) (n : ℕ) → finding ≡ Ok schedule → (n ≡ 0) ⊎ (n ≡ 7) ⊎ (n ≡ 8) → IsDueStatus finding n
-at_schedule finding schedule n is ends = let P : Finding Plan → Type 0 = λ x. IsDueStatus x n in subst P (sym is) ends
-
-at_7 : (n : ℕ) → (n ≡ 7) ⊎ (n ≡ 8) → (n ≡ 0) ⊎ (n ≡ 7) ⊎ (n ≡ 8)
-at_7 n ends = inr ends
-
-at_memory : (finding : Finding Plan) (n : ℕ) → n ≡ 8 → IsDueStatus finding n
-at_memory (Ok schedule) n is = inr (inr is)
-at_memory (Err refusal) n is = inr is
-
-ok_apart : (finding : Finding Plan) (refusal : Refusal) → IsOk finding → finding ≡ Err refusal → ⊥
-ok_apart (Ok schedule) refusal ok is = cc
-ok_apart (Err other) refusal ok is = cc
-
-told_not_7 : (f : Type 0) (before after : Option (List ℕ)) (words : List (List ℕ)) (fault : Fault) (n : ℕ) → status_of fault ≢ 7 → TellsOrRunsOut f before after words fault n → n ≢ 7
-told_not_7 f before after words fault n apart ends seven = elim ends [ inl x ↦ apart (sym x.0 ∙ seven) | inr x ↦ omega (arith, x.0, seven) ]
-
-told_runs_out : (words : List (List ℕ)) (files : Option FileMap) (f : Type 0) (before middle after : Option (List ℕ)) (n : ℕ) (fault : Fault) → status_of fault ≢ 8 → middle ≡ before → TellsOrRunsOut f middle after words fault n → n ≡ 8 → RunsOut words files before after
-told_runs_out words files f before middle after n fault apart is ends eight =
-    let P : Option (List ℕ) → Type 0 = λ x. GainsBoth x after (fault_line words fault) memory_line in
-    elim ends [ inl x ↦ absurd (apart (sym x.0 ∙ eight)) | inr x ↦ inr (fault_line words fault, inr (fault, apart, refl), subst P is x.1) ]
-
--- there was no memory: before its line nothing was written, or a front part of the report that is due
-memory_runs_out : (words : List (List ℕ)) (files : Option FileMap) (before middle after : Option (List ℕ)) → (middle ≡ before) ⊎ WritesPart words files before middle → GainsPrefix middle after memory_line → RunsOut words files before after
-memory_runs_out words files before middle after wrote line =
+-- there was no memory: before its line nothing was written, or a front part of the output that is due
+memory_runs_out : (asked : Command) (files : Option FileMap) (l : Type 0) (before middle after : Option (List ℕ)) → (middle ≡ before) ⊎ WritesPart asked files before middle → GainsPrefix middle after memory_line → RunsOut asked files l before after
+memory_runs_out asked files l before middle after wrote line =
     let P : Option (List ℕ) → Type 0 = λ x. GainsPrefix x after memory_line in
-    elim wrote [ inl is ↦ inl (subst P is line) | inr x ↦ inr (report_of x.0, inl (x.0, x.1, refl), (middle, x.2, line)) ]
+    elim wrote [ inl is ↦ inl (subst P is line) | inr x ↦ inr (x.0.bytes, inl (x.0, x.1, refl), (middle, x.2, line)) ]
 
--- the status that is due for the held files
-pub end_due : (words : List (List ℕ)) (files : Option FileMap) (l w s : Type 0) (before middle : Option (List ℕ)) (n : ℕ) (fault : Fault) → StopsAt words files l w s fault →
-    WroteBefore words files before middle fault → (n ≡ status_of fault) ⊎ (n ≡ 8) → is_step_form words ≡ true → (l → ⊥) → IfSome files (λ held. IsDueStatus (due words held) n)
-end_due words None l w s before middle n fault stops wrote ends form unfailed = tt
-end_due words (Some held) l w s before middle n Usage stops wrote ends form unfailed = formed (is_step_form words) form stops
-end_due words (Some held) l w s before middle n (Refused refusal) stops wrote ends form unfailed = at_refusal (due words held) refusal n (refusal_is_due (due words held) l refusal unfailed stops.1) ends
-end_due words (Some held) l w s before middle n Write stops wrote ends form unfailed = at_schedule (due words held) wrote.0 n wrote.1 (at_7 n ends)
-end_due words (Some held) l w s before middle n Save stops wrote ends form unfailed = at_schedule (due words held) wrote.0 n wrote.1 (at_7 n ends)
-end_due words (Some held) l w s before middle n Memory stops wrote ends form unfailed = at_memory (due words held) n (elim ends [ inl is ↦ is | inr is ↦ is ])
+refused_runs_out : (asked : Command) (files : Option FileMap) (l : Type 0) (before middle after : Option (List ℕ)) (refusal : Refusal) → RefusalCause (due asked) files l refusal → middle ≡ before → GainsBoth middle after (refusal_line refusal) memory_line → RunsOut asked files l before after
+refused_runs_out asked files l before middle after refusal cause is both =
+    let P : Option (List ℕ) → Type 0 = λ x. GainsBoth x after (refusal_line refusal) memory_line in
+    inr (refusal_line refusal, inr (refusal, cause, refl), subst P is both)
 
--- nothing failed, and a plan is due
-pub end_complete : (words : List (List ℕ)) (files : Option FileMap) (l w s : Type 0) (n : ℕ) (fault : Fault) → StopsAt words files l w s fault →
-    (n ≡ status_of fault) ⊎ (n ≡ 8) → is_step_form words ≡ true → (l → ⊥) → (w → ⊥) → (s → ⊥) → IfSome files (λ held. IsOk (due words held) → (n ≡ 0) ⊎ (n ≡ 8))
-end_complete words None l w s n fault stops ends form loads writes saves = tt
-end_complete words (Some held) l w s n Usage stops ends form loads writes saves = λ ok. formed (is_step_form words) form stops
-end_complete words (Some held) l w s n (Refused refusal) stops ends form loads writes saves = λ ok. absurd (ok_apart (due words held) refusal ok (refusal_is_due (due words held) l refusal loads stops.1))
-end_complete words (Some held) l w s n Write stops ends form loads writes saves = absurd (writes stops.1)
-end_complete words (Some held) l w s n Save stops ends form loads writes saves = absurd (saves stops.1)
-end_complete words (Some held) l w s n Memory stops ends form loads writes saves = λ ok. inr (elim ends [ inl is ↦ is | inr is ↦ is ])
+-- What was asked, at a fault. The write of its line is a later part of the call.
+pub fault_obeys : (asked : Command) (files files' : Option FileMap) (l v f w s : Type 0) → (v → w) → (f → w) → (before middle after : Option (List ℕ)) (n : ℕ) (fault : Fault) → StopsAt asked files l v s fault → WroteBefore asked files before middle fault →
+    UnlessSaved (files' ≡ files) fault → ChangesOnly (saved_name asked) files files' → Finishes f middle after n fault → Obeys asked files files' l w s before after n
+fault_obeys asked files files' l v f w s early late before middle after n (Refused refusal) stops wrote stay others ends =
+    let P : ℕ → Type 0 = λ m. Obeys asked files files' l w s before after m in
+    elim ends [
+      | inl x ↦ subst P (sym x.0) (at_refused asked files files' l w s before after refusal stops (tells_all f w late before middle after (refusal_line refusal) wrote x.1) stay others)
+      | inr x ↦ subst P (sym x.0) (at_8 asked files files' l w s before after (refused_runs_out asked files l before middle after refusal stops wrote x.1) stay others)
+    ]
+fault_obeys asked files files' l v f w s early late before middle after n Write stops wrote stay others ends =
+    let P : ℕ → Type 0 = λ m. Obeys asked files files' l w s before after m in
+    let Q : Option (List ℕ) → Type 0 = λ x. WritesPart asked files before x in
+    subst P (sym ends.0) (at_7 asked files files' l w s before after (inl (early stops, stay, subst Q (sym ends.1) wrote)) others)
+fault_obeys asked files files' l v f w s early late before middle after n Save stops wrote stay others ends =
+    let P : ℕ → Type 0 = λ m. Obeys asked files files' l w s before after m in
+    let Q : Option (List ℕ) → Type 0 = λ x. WritesAll asked files before x in
+    subst P (sym ends.0) (at_7 asked files files' l w s before after (inr (stops, subst Q (sym ends.1) wrote)) others)
+fault_obeys asked files files' l v f w s early late before middle after n Memory stops wrote stay others ends =
+    let P : ℕ → Type 0 = λ m. Obeys asked files files' l w s before after m in
+    subst P (sym ends.0) (at_8 asked files files' l w s before after (memory_runs_out asked files l before middle after wrote ends.1) stay others)
 
--- status 7
-pub end_outside : (words : List (List ℕ)) (files : Option FileMap) (l f w s stays : Type 0) (before middle after : Option (List ℕ)) (n : ℕ) (fault : Fault) → StopsAt words files l w s fault →
-    WroteBefore words files before middle fault → UnlessSaved stays fault → Finishes f middle after words n fault → n ≡ 7 → FailsOutside words files w s stays before after
-end_outside words files l f w s stays before middle after n Usage stops wrote unsaved ends seven = absurd (told_not_7 f middle after words Usage n (λ e. omega (arith, e)) ends seven)
-end_outside words files l f w s stays before middle after n (Refused refusal) stops wrote unsaved ends seven = absurd (told_not_7 f middle after words (Refused refusal) n (refusal_status_is refusal).not_7 ends seven)
-end_outside words files l f w s stays before middle after n Write stops wrote unsaved ends seven =
-    let P : Option (List ℕ) → Type 0 = λ x. WritesPart words files before x in inl (stops.1, unsaved, subst P (sym ends.1) wrote)
-end_outside words files l f w s stays before middle after n Save stops wrote unsaved ends seven =
-    let P : Option (List ℕ) → Type 0 = λ x. WritesAll words files before x in inr (stops.1, subst P (sym ends.1) wrote)
-end_outside words files l f w s stays before middle after n Memory stops wrote unsaved ends seven = absurd (omega (arith, ends.0, seven))
+-- no memory before the command began
+changes_nothing : (name : List ℕ) (files : Option FileMap) → ChangesOnly name files files
+changes_nothing name None = refl
+changes_nothing name (Some held) = λ other apart. refl
 
--- status 8
-pub end_runs_out : (words : List (List ℕ)) (files : Option FileMap) (f : Type 0) (before middle after : Option (List ℕ)) (n : ℕ) (fault : Fault) →
-    WroteBefore words files before middle fault → Finishes f middle after words n fault → n ≡ 8 → RunsOut words files before after
-end_runs_out words files f before middle after n Usage wrote ends eight = told_runs_out words files f before middle after n Usage (λ e. omega (arith, e)) wrote ends eight
-end_runs_out words files f before middle after n (Refused refusal) wrote ends eight = told_runs_out words files f before middle after n (Refused refusal) (refusal_status_is refusal).not_8 wrote ends eight
-end_runs_out words files f before middle after n Write wrote ends eight = absurd (omega (arith, ends.0, eight))
-end_runs_out words files f before middle after n Save wrote ends eight = absurd (omega (arith, ends.0, eight))
-end_runs_out words files f before middle after n Memory wrote ends eight = memory_runs_out words files before middle after wrote ends.1
+memory_obeys : (asked : Command) (files : Option FileMap) (l w s : Type 0) (before after : Option (List ℕ)) → GainsPrefix before after memory_line → Obeys asked files files l w s before after 8
+memory_obeys asked files l w s before after line = at_8 asked files files l w s before after (inl line) refl (changes_nothing (saved_name asked) files)
 
-pub end_unsaved : (stays f : Type 0) (middle after : Option (List ℕ)) (words : List (List ℕ)) (n : ℕ) (fault : Fault) → UnlessSaved stays fault → Finishes f middle after words n fault → n ≢ 7 → stays
-end_unsaved stays f middle after words n Usage unsaved ends apart = unsaved
-end_unsaved stays f middle after words n (Refused refusal) unsaved ends apart = unsaved
-end_unsaved stays f middle after words n Write unsaved ends apart = unsaved
-end_unsaved stays f middle after words n Save unsaved ends apart = absurd (apart ends.0)
-end_unsaved stays f middle after words n Memory unsaved ends apart = unsaved
+-- a command that was done
 
--- a cause stays one where the count of failed writes rises later
-pub stops_wider : (words : List (List ℕ)) (files : Option FileMap) (l w v s : Type 0) → (w → v) → (fault : Fault) → StopsAt words files l w s fault → StopsAt words files l v s fault
-stops_wider words files l w v s wider Usage stops = stops
-stops_wider words files l w v s wider (Refused refusal) stops = stops
-stops_wider words files l w v s wider Write stops = (stops.0, wider stops.1)
-stops_wider words files l w v s wider Save stops = stops
-stops_wider words files l w v s wider Memory stops = stops
+saved_as : (name : List ℕ) (files : Option FileMap) (image : ImageContents) (last : Option ImageContents) → last ≡ Some image → IsSaved (option_map (image_saving name) last) files → IsSaved (Some (image_saving name image)) files
+saved_as name files image last is saved = let P : Option ImageContents → Type 0 = λ x. IsSaved (option_map (image_saving name) x) files in subst P is saved
 
--- what was done is a play, by what holds of every schedule on a platform that is built
-pub done_played : (words : List (List ℕ)) (files files' : Option FileMap) (before after : Option (List ℕ)) → is_step_form words ≡ true → Performs words files files' before after →
-    ((plan : Plan) → IsPlayable plan → IsRun (platform_of plan.setup) (beginning (plan.image ∷ [])) (labels_of plan)) →
-    ((plan : Plan) → IsPlayable plan → last_image (world_of plan) 0 ≡ Some (member (machine_after (platform_of plan.setup) (beginning (plan.image ∷ [])) (labels_of plan)) 0).last) →
-    ((p : PlatformOf) (image : ImageContents) (es : List (ℕ × Label)) → resumed_image p 0 image es ≡ (member (machine_after p (beginning (image ∷ [])) es) 0).last) →
-    ((p : PlatformOf) (i : ℕ) (image : ImageContents) (es : List (ℕ × Label)) → (resumed_image p i image es).kind ≡ image.kind) →
-    IsPlayed words files files' before after
-done_played words files files' before after form done runs lasts resumed kinds =
-    let p = done.0 in
-    let P : Option ImageContents → Type 0 = λ last. Saves words files' last in
+one_of : (images : List ImageContents) → length images ≡ 1 → (image : ImageContents) × (images ≡ image ∷ [])
+one_of [] is = absurd (omega (arith, is))
+one_of (image ∷ []) is = (image, refl)
+one_of (image ∷ (other ∷ others)) is = absurd (omega (arith, is))
+
+outcome_of_plan : (names : Step) (files : Option FileMap) (plan : Plan) → IsDue (plan_due names) files plan → IsDue (due (command.Step names)) files (step_outcome names plan)
+outcome_of_plan names None plan is = tt
+outcome_of_plan names (Some held) plan is = ap (λ r. and_then r (λ p. Ok (step_outcome names p))) is
+
+-- what a step has done is an outcome that is due
+step_done : (names : Step) (files files' : Option FileMap) (before after : Option (List ℕ)) → Steps names files files' before after → IsDone (command.Step names) files files' before after
+step_done names files files' before after steps = record {
+  outcome = step_outcome names steps.plan;
+  is_due = outcome_of_plan names files steps.plan steps.is_due;
+  written = steps.written;
+  saved = steps.saved;
+}
+
+-- and a play, by what holds of every schedule on a platform that is built
+abbrev RunOf : Plan → Type 0
+RunOf p = IsRun (platform_of p.setup) (beginning (registers_of p) p.images) (labels_of p)
+
+abbrev LastOf : Plan → Type 0
+LastOf p = last_image (world_of p) 0 ≡ Some (member (machine_after (platform_of p.setup) (beginning (registers_of p) p.images) (labels_of p)) 0).last
+
+abbrev Resumed : Type 0
+Resumed = (p : PlatformOf) (registers : Registers) (image : ImageContents) (es : List (ℕ × Label)) → resumed_image p 0 registers image es ≡ (member (machine_after p (beginning (registers ∷ []) (image ∷ [])) es) 0).last
+
+abbrev KindStays : Type 0
+KindStays = (p : PlatformOf) (i : ℕ) (registers : Registers) (image : ImageContents) (es : List (ℕ × Label)) → (resumed_image p i registers image es).kind ≡ image.kind
+
+step_played : (names : Step) (files files' : Option FileMap) (before after : Option (List ℕ)) (steps : Steps names files files' before after) → length steps.plan.images ≡ 1 → RunOf steps.plan → LastOf steps.plan → Resumed → KindStays →
+    IsStepped names files files' before after
+step_played names files files' before after steps count runs last resumed kinds =
+    let p = steps.plan in
+    let single = one_of p.images count in
+    let image = single.0 in
+    let registers = first_registers_of p.setup 0 image in
+    let es = labels_of p in
+    let machine = λ (images : List ImageContents). (member (machine_after (platform_of p.setup) (beginning (first_registers p.setup images) images) es) 0).last in
+    let all_kinds : All (λ i. i.kind ≡ p.setup.kind) (image ∷ []) = let P : List ImageContents → Type 0 = λ xs. All (λ i. i.kind ≡ p.setup.kind) xs in subst P single.1 steps.playable.images.kind in
     record {
-      form = form;
       plan = p;
-      playable = done.1;
-      is_due = done.2;
-      written = done.3;
-      is_run = runs p done.1;
-      saved = subst P (lasts p done.1 ∙ ap Some (sym (resumed (platform_of p.setup) p.image (labels_of p)))) done.4;
-      kind = kinds (platform_of p.setup) 0 p.image (labels_of p) ∙ done.1.images.kind 0 p.image (omega arith);
+      playable = steps.playable;
+      is_due = steps.is_due;
+      written = steps.written;
+      is_run = runs;
+      image = image;
+      only = single.1;
+      saved = saved_as names.after files' (resumed_image (platform_of p.setup) 0 registers image es) (last_image (world_of p) 0)
+          (last ∙ ap (λ xs. Some (machine xs)) single.1 ∙ ap Some (sym (resumed (platform_of p.setup) registers image es))) steps.saved;
+      kind = kinds (platform_of p.setup) 0 registers image es ∙ All-head (λ i. i.kind ≡ p.setup.kind) image [] all_kinds;
     }
 
+pub done_obeys : (asked : Command) (files files' : Option FileMap) (l w s : Type 0) (before after : Option (List ℕ)) → Performs asked files files' before after → ChangesOnly (saved_name asked) files files' →
+    ((plan : Plan) → IsPlayable plan → length plan.images ≡ 1) → ((plan : Plan) → IsPlayable plan → RunOf plan) → ((plan : Plan) → IsPlayable plan → LastOf plan) → Resumed → KindStays → Obeys asked files files' l w s before after 0
+done_obeys (command.Step names) files files' l w s before after steps others counts runs lasts resumed kinds =
+    at_0 (command.Step names) files files' l w s before after (step_done names files files' before after steps)
+    (step_played names files files' before after steps (counts steps.plan steps.playable) (runs steps.plan steps.playable) (lasts steps.plan steps.playable) resumed kinds) others
+
+-- a step's faults
+
+judge_due : (names : Step) (files : Option FileMap) (l : Type 0) (refusal : Refusal) → RefusalCause (plan_due names) files l refusal → RefusalCause (due (command.Step names)) files l refusal
+judge_due names files l refusal cause = cause_first (plan_due names) (λ p _. Ok (step_outcome names p)) files l refusal cause
+
 -- at a fault of the inputs nothing was written
-pub inputs_wrote : (told : Option (Finding Plan)) (l : Type 0) (words : List (List ℕ)) (files : Option FileMap) (before : Option (List ℕ)) (fault : Fault) → HasCause told l fault → WroteBefore words files before before fault
-inputs_wrote told l words files before Usage cause = refl
-inputs_wrote told l words files before (Refused refusal) cause = refl
-inputs_wrote told l words files before Write cause = absurd cause
-inputs_wrote told l words files before Save cause = absurd cause
-inputs_wrote told l words files before Memory cause = inl refl
+pub inputs_wrote : (names : Step) (l : Type 0) (files : Option FileMap) (before : Option (List ℕ)) (fault : Fault) → LoadCause (plan_due names) files l fault → WroteBefore (command.Step names) files before before fault
+inputs_wrote names l files before (Refused refusal) cause = refl
+inputs_wrote names l files before Write cause = absurd cause
+inputs_wrote names l files before Save cause = absurd cause
+inputs_wrote names l files before Memory cause = inl refl
 
 -- and its cause is one of the command
-pub inputs_stop : (words : List (List ℕ)) (files : Option FileMap) (l w s : Type 0) (fault : Fault) → is_step_form words ≡ true → HasCause (told_due words files) l fault → StopsAt words files l w s fault
-inputs_stop words files l w s Usage form cause = absurd cause
-inputs_stop words files l w s (Refused refusal) form cause = (form, cause)
-inputs_stop words files l w s Write form cause = absurd cause
-inputs_stop words files l w s Save form cause = absurd cause
-inputs_stop words files l w s Memory form cause = tt
+pub inputs_stop : (names : Step) (files : Option FileMap) (l w s : Type 0) (fault : Fault) → LoadCause (plan_due names) files l fault → StopsAt (command.Step names) files l w s fault
+inputs_stop names files l w s (Refused refusal) cause = judge_due names files l refusal cause
+inputs_stop names files l w s Write cause = absurd cause
+inputs_stop names files l w s Save cause = absurd cause
+inputs_stop names files l w s Memory cause = tt
+
+pub inputs_unsaved : {A : Type 0} (judge : FileMap → Finding A) (l : Type 0) (files : Option FileMap) (stays : Type 0) (fault : Fault) → LoadCause judge files l fault → stays → UnlessSaved stays fault
+inputs_unsaved judge l files stays (Refused refusal) cause stay = stay
+inputs_unsaved judge l files stays Write cause stay = stay
+inputs_unsaved judge l files stays Save cause stay = tt
+inputs_unsaved judge l files stays Memory cause stay = stay
 
 -- the cause of a fault of the replay
-pub replay_stops : {T : Type 0} (r : Result T Fault) (words : List (List ℕ)) (files : Option FileMap) (l w s v : Type 0) → (s → v) → (before after : Option (List ℕ)) (report : List ℕ) → is_step_form words ≡ true →
-    IfErr r (EndsReplay w s before after report) → IfErr r (StopsAt words files l w v)
-replay_stops (Ok x) words files l w s v wider before after report form ends = tt
-replay_stops (Err Usage) words files l w s v wider before after report form ends = absurd ends
-replay_stops (Err (Refused refusal)) words files l w s v wider before after report form ends = absurd ends
-replay_stops (Err Write) words files l w s v wider before after report form ends = (form, ends.0)
-replay_stops (Err Save) words files l w s v wider before after report form ends = (form, wider ends.0)
-replay_stops (Err Memory) words files l w s v wider before after report form ends = tt
+pub replay_stops : {T : Type 0} (r : Result T Fault) (asked : Command) (files : Option FileMap) (l w s v : Type 0) → (s → v) → (before after : Option (List ℕ)) (report : List ℕ) → IfErr r (EndsReplay w s before after report) → IfErr r (StopsAt asked files l w v)
+replay_stops (Ok x) asked files l w s v wider before after report ends = tt
+replay_stops (Err (Refused refusal)) asked files l w s v wider before after report ends = absurd ends
+replay_stops (Err Write) asked files l w s v wider before after report ends = ends.0
+replay_stops (Err Save) asked files l w s v wider before after report ends = wider ends.0
+replay_stops (Err Memory) asked files l w s v wider before after report ends = tt
 
 -- what was written when a fault of the replay came
-pub replay_wrote : {T : Type 0} (r : Result T Fault) (words : List (List ℕ)) (files : Option FileMap) (w s : Type 0) (before after : Option (List ℕ)) (p : Plan) → IsDue (told_due words files) p →
-    IfErr r (EndsReplay w s before after (report_of p)) → IfErr r (WroteBefore words files before after)
-replay_wrote (Ok x) words files w s before after p due ends = tt
-replay_wrote (Err Usage) words files w s before after p due ends = absurd ends
-replay_wrote (Err (Refused refusal)) words files w s before after p due ends = absurd ends
-replay_wrote (Err Write) words files w s before after p due ends = (p, due, ends.1)
-replay_wrote (Err Save) words files w s before after p due ends = (p, due, ends.1)
-replay_wrote (Err Memory) words files w s before after p due ends = inr (p, due, ends)
+pub replay_wrote : {T : Type 0} (r : Result T Fault) (names : Step) (files : Option FileMap) (w s : Type 0) (before after : Option (List ℕ)) (p : Plan) → IsDue (plan_due names) files p → IfErr r (EndsReplay w s before after (report_of p)) →
+    IfErr r (WroteBefore (command.Step names) files before after)
+replay_wrote (Ok x) names files w s before after p is ends = tt
+replay_wrote (Err (Refused refusal)) names files w s before after p is ends = absurd ends
+replay_wrote (Err Write) names files w s before after p is ends = (step_outcome names p, outcome_of_plan names files p is, ends.1)
+replay_wrote (Err Save) names files w s before after p is ends = (step_outcome names p, outcome_of_plan names files p is, ends.1)
+replay_wrote (Err Memory) names files w s before after p is ends = inr (step_outcome names p, outcome_of_plan names files p is, ends)
 
 -- what a replay that came to its end has done
-pub replay_done : {T : Type 0} (r : Result T Fault) (words : List (List ℕ)) (files files' : Option FileMap) (before after : Option (List ℕ)) (p : Plan) → IsPlayable p → IsDue (told_due words files) p →
-    OnOk r (after ≡ appended before (report_of p)) → OnOk r (Saves words files' (last_image (world_of p) 0)) → OnOk r (Performs words files files' before after)
-replay_done (Ok x) words files files' before after p playable due written saved = (p, playable, due, written, saved)
-replay_done (Err fault) words files files' before after p playable due written saved = tt
-
-pub on_ok_anyway : {T E : Type 0} (r : Result T E) (P : Type 0) → P → OnOk r P
-on_ok_anyway (Ok x) P holds = holds
-on_ok_anyway (Err e) P holds = tt
+pub replay_done : {T : Type 0} (r : Result T Fault) (names : Step) (files files' : Option FileMap) (before after : Option (List ℕ)) (p : Plan) → IsPlayable p → IsDue (plan_due names) files p → OnOk r (after ≡ appended before (report_of p)) →
+    OnOk r (IsSaved (option_map (image_saving names.after) (last_image (world_of p) 0)) files') → OnOk r (Performs (command.Step names) files files' before after)
+replay_done (Ok x) names files files' before after p playable is written saved = record { plan = p; playable = playable; is_due = is; written = written; saved = saved }
+replay_done (Err fault) names files files' before after p playable is written saved = tt
 
 pub unsaved_from : {T : Type 0} (r : Result T Fault) (P Q : Type 0) → (P → Q) → IfErr r (UnlessSaved P) → IfErr r (UnlessSaved Q)
 unsaved_from (Ok x) P Q step holds = tt
-unsaved_from (Err Usage) P Q step holds = step holds
 unsaved_from (Err (Refused refusal)) P Q step holds = step holds
 unsaved_from (Err Write) P Q step holds = step holds
 unsaved_from (Err Save) P Q step holds = tt
 unsaved_from (Err Memory) P Q step holds = step holds
+
+-- what a play promises, by the command that the words stand for, if any
+pub record Plays (o : Option Command) (files files' : Option FileMap) (l w s : Type 0) (before after : Option (List ℕ)) (n : ℕ) : Type 0 where
+  pub status : is_exit_status n ≡ true
+  pub done : n ≡ 0 → IsSomeAnd o (λ asked. IsDone asked files files' before after)
+  pub played : n ≡ 0 → IsSomeAnd o (λ asked. IsPlayed asked files files' before after)
+  pub usage_only : n ≡ 1 → o ≡ None
+  pub usage : o ≡ None → (n ≡ 1) ⊎ (n ≡ 8)
+  pub usage_told : n ≡ 1 → Tells w before after usage_line
+  pub faulted : (n ≡ 2) ⊎ (n ≡ 3) ⊎ (n ≡ 4) ⊎ (n ≡ 6) ⊎ (n ≡ 9) → IsSomeAnd o (λ asked. IsFaulted asked files l w before after n)
+  pub is_due : (l → ⊥) → IfSome o (λ asked. IfSome files (λ held. IsDueStatus (due asked held) n))
+  pub complete : (l → ⊥) → (w → ⊥) → (s → ⊥) → IfSome o (λ asked. IfSome files (λ held. IsOk (due asked held) → (n ≡ 0) ⊎ (n ≡ 8)))
+  pub outside : n ≡ 7 → IsSomeAnd o (λ asked. FailsOutside asked files w s (files' ≡ files) before after)
+  pub runs_out : n ≡ 8 → MatchOption o (UsageRunsOut before after) (λ asked. RunsOut asked files l before after)
+  pub unsaved : n ≢ 0 → n ≢ 7 → files' ≡ files
+  pub others_stay : ChangesOnlySaved o files files'
+
+plays_asked : (asked : Command) (files files' : Option FileMap) (l w s : Type 0) (before after : Option (List ℕ)) (n : ℕ) → Obeys asked files files' l w s before after n → Plays (Some asked) files files' l w s before after n
+plays_asked asked files files' l w s before after n obeys = record {
+  status = obeys.exits;
+  done = obeys.done;
+  played = obeys.played;
+  usage_only = λ one. absurd (obeys.not_usage one);
+  usage = λ none. absurd cc;
+  usage_told = λ one. absurd (obeys.not_usage one);
+  faulted = obeys.faulted;
+  is_due = obeys.is_due;
+  complete = obeys.complete;
+  outside = obeys.outside;
+  runs_out = obeys.runs_out;
+  unsaved = obeys.unsaved;
+  others_stay = obeys.others_stay;
+}
+
+pub some_plays : (o : Option Command) (asked : Command) (files files' : Option FileMap) (l w s : Type 0) (before after : Option (List ℕ)) (n : ℕ) → o ≡ Some asked → Obeys asked files files' l w s before after n → Plays o files files' l w s before after n
+some_plays o asked files files' l w s before after n is obeys =
+    let P : Option Command → Type 0 = λ x. Plays x files files' l w s before after n in subst P (sym is) (plays_asked asked files files' l w s before after n obeys)
+
+usage_at_1 : (files : Option FileMap) (l w s : Type 0) (before after : Option (List ℕ)) → Tells w before after usage_line → Plays None files files l w s before after 1
+usage_at_1 files l w s before after line = record {
+  status = refl;
+  done = λ e. absurd (omega (arith, e));
+  played = λ e. absurd (omega (arith, e));
+  usage_only = λ _. refl;
+  usage = λ _. inl refl;
+  usage_told = λ _. line;
+  faulted = λ is. unfaulted 1 (λ e. omega (arith, e)) (λ e. omega (arith, e)) (λ e. omega (arith, e)) (λ e. omega (arith, e)) (λ e. omega (arith, e)) is;
+  is_due = λ _. tt;
+  complete = λ _ _ _. tt;
+  outside = λ e. absurd (omega (arith, e));
+  runs_out = λ e. absurd (omega (arith, e));
+  unsaved = λ _ _. refl;
+  others_stay = refl;
+}
+
+usage_at_8 : (files : Option FileMap) (l w s : Type 0) (before after : Option (List ℕ)) → UsageRunsOut before after → Plays None files files l w s before after 8
+usage_at_8 files l w s before after out = record {
+  status = refl;
+  done = λ e. absurd (omega (arith, e));
+  played = λ e. absurd (omega (arith, e));
+  usage_only = λ e. absurd (omega (arith, e));
+  usage = λ _. inr refl;
+  usage_told = λ e. absurd (omega (arith, e));
+  faulted = λ is. unfaulted 8 (λ e. omega (arith, e)) (λ e. omega (arith, e)) (λ e. omega (arith, e)) (λ e. omega (arith, e)) (λ e. omega (arith, e)) is;
+  is_due = λ _. tt;
+  complete = λ _ _ _. tt;
+  outside = λ e. absurd (omega (arith, e));
+  runs_out = λ _. out;
+  unsaved = λ _ _. refl;
+  others_stay = refl;
+}
+
+usage_plays : (files : Option FileMap) (l w s : Type 0) (before after : Option (List ℕ)) (n : ℕ) → TellsOrRunsOut w before after usage_line 1 n → Plays None files files l w s before after n
+usage_plays files l w s before after n ends =
+    let P : ℕ → Type 0 = λ m. Plays None files files l w s before after m in
+    elim ends [ inl x ↦ subst P (sym x.0) (usage_at_1 files l w s before after x.1) | inr x ↦ subst P (sym x.0) (usage_at_8 files l w s before after (inr x.1)) ]
+
+pub none_plays : (o : Option Command) (files : Option FileMap) (l w s : Type 0) (before after : Option (List ℕ)) (n : ℕ) → o ≡ None → TellsOrRunsOut w before after usage_line 1 n → Plays o files files l w s before after n
+none_plays o files l w s before after n is ends = let P : Option Command → Type 0 = λ x. Plays x files files l w s before after n in subst P (sym is) (usage_plays files l w s before after n ends)
+
+memory_at_8 : (o : Option Command) (files : Option FileMap) (l w s : Type 0) (before after : Option (List ℕ)) → GainsPrefix before after memory_line → Plays o files files l w s before after 8
+memory_at_8 None files l w s before after line = usage_at_8 files l w s before after (inl line)
+memory_at_8 (Some asked) files l w s before after line = plays_asked asked files files l w s before after 8 (memory_obeys asked files l w s before after line)
+
+pub memory_plays : (o : Option Command) (files : Option FileMap) (l w s : Type 0) (before after : Option (List ℕ)) (n : ℕ) → n ≡ 8 → GainsPrefix before after memory_line → Plays o files files l w s before after n
+memory_plays o files l w s before after n is line = let P : ℕ → Type 0 = λ m. Plays o files files l w s before after m in subst P (sym is) (memory_at_8 o files l w s before after line)
+
+-- nothing of the store changed
+pub inputs_others : (name : List ℕ) (files files' : Option FileMap) → files' ≡ files → ChangesOnly name files files'
+inputs_others name files files' stay = let P : Option FileMap → Type 0 = λ fs. ChangesOnly name files fs in subst P (sym stay) (changes_nothing name files)
+
+-- each platform that is built has one processor
+one_processor : (s : SetupData) → IsTrue (is_built s) → s.processors ≡ 1
+one_processor s built =
+    let a = and_parts (s.processors == 1 && is_elected s.policy && is_traditional s.mode && is_one_wave s.waves) (are_built_handlers s.handlers) built in
+    let b = and_parts (s.processors == 1 && is_elected s.policy && is_traditional s.mode) (is_one_wave s.waves) a.0 in
+    let e = and_parts (s.processors == 1 && is_elected s.policy) (is_traditional s.mode) b.0 in
+    let f = and_parts (s.processors == 1) (is_elected s.policy) e.0 in
+    eqb-true s.processors 1 f.0
+
+pub one_image : (p : Plan) → IsPlayable p → length p.images ≡ 1
+one_image p playable = playable.images.count ∙ one_processor p.setup playable.built
+
+-- where an outcome is due and nothing failed, all is done
+pub all_is_done : (o : Option Command) (held : FileMap) (n : ℕ) → IsSomeAnd o (λ asked. IsOk (due asked held)) → IfSome o (λ asked. IsOk (due asked held) → (n ≡ 0) ⊎ (n ≡ 8)) → (n ≡ 0) ⊎ (n ≡ 8)
+all_is_done None held n good done = absurd good
+all_is_done (Some asked) held n good done = done good

@@ -5,9 +5,9 @@ use Rattle.sync_words.specs.declared.event.Event.{Event}
 use Rattle.rendezvous_core.specs.Worlds.{World, is_complete}
 use Rattle.smm_player.specs.Plan.{Plan, events_of, world_of, report_of}
 use Rattle.smm_player.specs.declared.fault.Fault.{Fault}
-use Rattle.smm_player.specs.declared.fault.Fault.TheVariants.{Usage, Refused, Write, Save, Memory}
+use Rattle.smm_player.specs.declared.fault.Fault.TheVariants.{Refused, Write, Save, Memory}
 use Rattle.smm_player.specs.Report.{report_text}
-use Rattle.smm_player.specs.Replay.{EndsReplay, SaveFault}
+use Rattle.smm_player.specs.Ending.{EndsReplay, SaveFault}
 
 -- the report by the events and the world that the replay came to
 pub report_is : (p : Plan) (events : List Event) (world : World) → events ≡ events_of p → world ≡ world_of p → report_text p.setup.processors events (is_complete world) ≡ report_of p
@@ -19,7 +19,6 @@ report_is p events world events_are world_is =
 pub save_ends : {T : Type 0} (r : Result T Fault) (write_failed save_failed files_stay : Type 0) (before after : Option (List ℕ)) (report : List ℕ) →
     IfErr r (SaveFault save_failed files_stay) → after ≡ appended before report → IfErr r (EndsReplay write_failed save_failed before after report)
 save_ends (Ok x) write_failed save_failed files_stay before after report fault written = tt
-save_ends (Err Usage) write_failed save_failed files_stay before after report fault written = fault
 save_ends (Err (Refused refusal)) write_failed save_failed files_stay before after report fault written = fault
 save_ends (Err Write) write_failed save_failed files_stay before after report fault written = absurd fault
 save_ends (Err Save) write_failed save_failed files_stay before after report fault written = (fault, written)

@@ -2,7 +2,7 @@
 use Rattle.std.proofs.Common.{◌≡◌, ◌==◌, Bool, true, not, ◌||◌, ◌&&◌, length, List, [], ◌∷◌, map, string_bytes, String, refl, ap, sym, ◌∙◌}
 use Rattle.std.proofs.lemmas.List.{length-map}
 use Rattle.std.specs.List.{list_any}
-use Rattle.smm_player.specs.Words.{begins_with_dash, texts, word_at, is_step_word, is_step_form}
+use Rattle.smm_player.specs.Commands.{begins_with_dash, texts, word_at, is_step_word, is_step_form}
 
 -- some image of an element passes where some element does by its image
 pub list_any-map : {X Y : Type 0} (p : Y → Bool) (f : X → Y) (xs : List X) → list_any p (map f xs) ≡ list_any (λ x. p (f x)) xs

@@ -1,11 +1,12 @@
+pub mod Commands
+pub mod Due
+pub mod Ending
 pub mod Fault
-pub mod Files
-pub mod Finish
 pub mod Lines
+pub mod Loading
+pub mod Outcome
+pub mod Performing
 pub mod Plan
 pub mod Play
 pub mod Refusal
-pub mod Replay
 pub mod Report
-pub mod Verdict
-pub mod Words

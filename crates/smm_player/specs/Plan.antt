@@ -1,37 +1,49 @@
 -- What a replay works on, and what it leaves.
-use Rattle.std.specs.Prelude.{ℕ, ◌≡◌, ◌<◌, List, [], ◌∷◌, Option, Some, IfSome, IsTrue}
-use Rattle.smm_base.specs.Store.{FileMap}
+use Rattle.std.specs.Prelude.{ℕ, ◌≡◌, ◌<◌, ◌≤◌, List, [], ◌∷◌, All, None, IsTrue}
 use Rattle.save_state_map.specs.Images.{ImageContents}
 use Rattle.image_file.specs.Spelling.{spelling}
-use Rattle.cpu_table.specs.Data.{SetupData}
+use Rattle.cpu_regs.specs.Registers.{Registers}
+use Rattle.cpu_table.specs.Data.{SetupData, data_of}
 use Rattle.sync_words.specs.declared.event.Event.{Event}
 use Rattle.sync_words.specs.declared.label.Label.{Label}
 use Rattle.rendezvous_core.specs.Setups.{platform_of, is_built, AreImagesOf}
+use Rattle.rendezvous_core.specs.Starts.{first_registers, start_refusal}
 use Rattle.rendezvous_core.specs.Worlds.{World, replay_events, replay_world, is_complete, labels}
+use Rattle.smm_player.specs.declared.inputs.Inputs.{Inputs}
 use Rattle.smm_player.specs.Report.{report_text}
-use Rattle.smm_player.specs.Words.{after_name}
 
--- the platform's setup; the processor's image; the schedule's actors
+-- the platform's setup; an image for each processor; the schedule's actors
 pub record Plan : Type 0 where
   pub setup : SetupData
-  pub image : ImageContents
+  pub images : List ImageContents
   pub actors : List ℕ
 
-abbrev pub plan : SetupData → ImageContents → List ℕ → Plan
-plan setup image actors = record { setup = setup; image = image; actors = actors }
+abbrev pub plan : SetupData → List ImageContents → List ℕ → Plan
+plan setup images actors = record { setup = setup; images = images; actors = actors }
 
--- the platform is built and has a visit, and the image is the one of its one processor, of the platform's kind
+-- the plan of the inputs that were read
+abbrev pub plan_of : Inputs → Plan
+plan_of inputs = plan (data_of inputs.setup) inputs.images.items inputs.actors.items
+
+-- the platform is built and has a visit, there is an image of its kind for each processor, with which the processor can
+-- begin, and it has each actor
 pub record IsPlayable (p : Plan) : Type 0 where
   pub built : IsTrue (is_built p.setup)
   pub visits : 0 < p.setup.visits
-  pub images : AreImagesOf p.setup (p.image ∷ [])
+  pub images : AreImagesOf p.setup p.images
+  pub relocatable : start_refusal p.setup p.images ≡ None
+  pub known : All (λ actor. actor ≤ p.setup.processors) p.actors
+
+-- the registers that the processors begin with
+abbrev pub registers_of : Plan → List Registers
+registers_of p = first_registers p.setup p.images
 
 -- the events of the replay, the world that it leaves, and the actors and labels of its events
 abbrev pub events_of : Plan → List Event
-events_of p = replay_events (platform_of p.setup) (p.image ∷ []) p.actors
+events_of p = replay_events (platform_of p.setup) (registers_of p) p.images p.actors
 
 abbrev pub world_of : Plan → World
-world_of p = replay_world (platform_of p.setup) (p.image ∷ []) p.actors
+world_of p = replay_world (platform_of p.setup) (registers_of p) p.images p.actors
 
 abbrev pub labels_of : Plan → List (ℕ × Label)
 labels_of p = labels (events_of p)
@@ -43,7 +55,3 @@ report_of p = report_text p.setup.processors (events_of p) (is_complete (world_o
 -- the image file of one image
 abbrev pub file_of : ImageContents → List ℕ
 file_of image = spelling image.kind (image ∷ [])
-
--- the name for the images after holds the file of this image, where the store tells its files
-abbrev pub Saves : List (List ℕ) → Option FileMap → Option ImageContents → Type 0
-Saves words files image = IfSome files (λ held. IfSome image (λ last. held (after_name words) ≡ Some (file_of last)))

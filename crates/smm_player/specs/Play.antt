@@ -1,91 +1,107 @@
 -- What `play` promises at each exit status.
-use Rattle.std.specs.Prelude.{ℕ, ◌≡◌, ◌≢◌, ◌==◌, ◌⊎◌, Bool, true, false, ◌||◌, List, [], ◌∷◌, Option, Some, Ok, Err}
+use Rattle.std.specs.Prelude.{ℕ, ◌≡◌, ◌≢◌, ◌==◌, ◌⊎◌, Bool, ◌||◌, List, [], ◌∷◌, Option, None, Some, Ok, Err, IsOk, IfSome, true}
 use Rattle.smm_base.specs.Sink.{appended, GainsPrefix}
-use Rattle.smm_base.specs.Store.{FileMap}
+use Rattle.smm_base.specs.Store.{FileMap, ChangesOnly}
+use Rattle.save_state_map.specs.Images.{ImageContents}
 use Rattle.rendezvous_core.specs.Machine.{IsRun, beginning, resumed_image}
 use Rattle.rendezvous_core.specs.Setups.{platform_of}
-use Rattle.rendezvous_core.specs.Worlds.{last_image}
-use Rattle.smm_player.specs.declared.fault.Fault.{Fault}
-use Rattle.smm_player.specs.declared.fault.Fault.TheVariants.{Usage, Refused, Write, Save, Memory}
-use Rattle.smm_player.specs.Fault.{status_of, fault_line}
-use Rattle.smm_player.specs.Finish.{GainsBoth, Tells}
-use Rattle.smm_player.specs.Plan.{Plan, IsPlayable, labels_of, world_of, report_of, Saves}
-use Rattle.smm_player.specs.Refusal.{refusal_status, memory_line}
-use Rattle.smm_player.specs.Verdict.{Finding, told_due, HasCause, IsDue}
-use Rattle.smm_player.specs.Words.{is_step_form}
+use Rattle.rendezvous_core.specs.Starts.{first_registers_of}
+use Rattle.smm_player.specs.declared.command.Step.{Step}
+use Rattle.smm_player.specs.declared.command.Command.{Command}
+use Rattle.smm_player.specs.declared.command.Command.TheVariants as command
+use Rattle.smm_player.specs.declared.refusal.Refusal.{Refusal}
+use Rattle.smm_player.specs.Due.{Finding, plan_due, IsDue, RefusalCause}
+use Rattle.smm_player.specs.Ending.{GainsBoth, Tells}
+use Rattle.smm_player.specs.Outcome.{Outcome, image_saving, due, saved_name, IsSaved}
+use Rattle.smm_player.specs.Plan.{Plan, IsPlayable, registers_of, labels_of, report_of}
+use Rattle.smm_player.specs.Refusal.{refusal_status, refusal_line, usage_line, memory_line}
 
 -- done, usage, a file that is no platform, an image file that doesn't serve, a file that is no schedule, a file that isn't read,
 -- a failed write or save, want of memory, a part that isn't built
 abbrev pub is_exit_status : ℕ → Bool
 is_exit_status n = (n == 0) || (n == 1) || (n == 2) || (n == 3) || (n == 4) || (n == 6) || (n == 7) || (n == 8) || (n == 9)
 
--- The command was done: its words, the plan that is due, the report of its replay, whose labels are a run of the
--- rendezvous machine, and the saved image, which by the labels is the one that the processor last resumed from. It is of
--- the platform's kind.
-pub record IsPlayed (words : List (List ℕ)) (files files' : Option FileMap) (before after : Option (List ℕ)) : Type 0 where
-  pub form : is_step_form words ≡ true
+-- status 0: the outcome that is due was written and saved
+pub record IsDone (asked : Command) (files files' : Option FileMap) (before after : Option (List ℕ)) : Type 0 where
+  pub outcome : Outcome
+  pub is_due : IsDue (due asked) files outcome
+  pub written : after ≡ appended before outcome.bytes
+  pub saved : IsSaved outcome.saving files'
+
+-- A step was done: the plan that is due, the report of its replay, whose labels are a run of the rendezvous machine, and
+-- the saved image, which by the labels is the one that the processor last resumed from. It is of the platform's kind.
+-- Each platform that is built has one processor, and so there is one image.
+pub record IsStepped (names : Step) (files files' : Option FileMap) (before after : Option (List ℕ)) : Type 0 where
   pub plan : Plan
   pub playable : IsPlayable plan
-  pub is_due : IsDue (told_due words files) plan
+  pub is_due : IsDue (plan_due names) files plan
   pub written : after ≡ appended before (report_of plan)
-  pub is_run : IsRun (platform_of plan.setup) (beginning (plan.image ∷ [])) (labels_of plan)
-  pub saved : Saves words files' (Some (resumed_image (platform_of plan.setup) 0 plan.image (labels_of plan)))
-  pub kind : (resumed_image (platform_of plan.setup) 0 plan.image (labels_of plan)).kind ≡ plan.setup.kind
+  pub is_run : IsRun (platform_of plan.setup) (beginning (registers_of plan) plan.images) (labels_of plan)
+  pub image : ImageContents
+  pub only : plan.images ≡ image ∷ []
+  pub saved : IsSaved (Some (image_saving names.after (resumed_image (platform_of plan.setup) 0 (first_registers_of plan.setup 0 image) image (labels_of plan)))) files'
+  pub kind : (resumed_image (platform_of plan.setup) 0 (first_registers_of plan.setup 0 image) image (labels_of plan)).kind ≡ plan.setup.kind
 
--- what is done: the plan that is due, the report of its replay, and the saved image
-abbrev pub Performs : List (List ℕ) → Option FileMap → Option FileMap → Option (List ℕ) → Option (List ℕ) → Type 0
-Performs words files files' before after =
-    (plan : Plan) × IsPlayable plan × IsDue (told_due words files) plan × (after ≡ appended before (report_of plan)) × Saves words files' (last_image (world_of plan) 0)
+-- what each command has done
+abbrev pub IsPlayed : Command → Option FileMap → Option FileMap → Option (List ℕ) → Option (List ℕ) → Type 0
+IsPlayed (command.Step names) files files' before after = IsStepped names files files' before after
 
--- The cause of each fault: words that aren't of the form; else what is due at the input files and which counts rose.
-abbrev pub StopsAt : List (List ℕ) → Option FileMap → Type 0 → Type 0 → Type 0 → Fault → Type 0
-StopsAt words files load_failed write_failed save_failed Usage = is_step_form words ≡ false
-StopsAt words files load_failed write_failed save_failed (Refused refusal) = (is_step_form words ≡ true) × HasCause (told_due words files) load_failed (Refused refusal)
-StopsAt words files load_failed write_failed save_failed Write = (is_step_form words ≡ true) × write_failed
-StopsAt words files load_failed write_failed save_failed Save = (is_step_form words ≡ true) × save_failed
-StopsAt words files load_failed write_failed save_failed Memory = Unit {0}
+-- a front part of the outcome that is due, where the files are told
+abbrev pub WritesPart : Command → Option FileMap → Option (List ℕ) → Option (List ℕ) → Type 0
+WritesPart asked files before after = (outcome : Outcome) × IsDue (due asked) files outcome × GainsPrefix before after outcome.bytes
 
--- a front part of the report of the plan that is due, where the files are told
-abbrev pub WritesPart : List (List ℕ) → Option FileMap → Option (List ℕ) → Option (List ℕ) → Type 0
-WritesPart words files before after = (plan : Plan) × IsDue (told_due words files) plan × GainsPrefix before after (report_of plan)
+-- all that is due to be written, where the files are told
+abbrev pub WritesAll : Command → Option FileMap → Option (List ℕ) → Option (List ℕ) → Type 0
+WritesAll asked files before after = (outcome : Outcome) × IsDue (due asked) files outcome × (after ≡ appended before outcome.bytes)
 
--- the whole report of the plan that is due, where the files are told
-abbrev pub WritesAll : List (List ℕ) → Option FileMap → Option (List ℕ) → Option (List ℕ) → Type 0
-WritesAll words files before after = (plan : Plan) × IsDue (told_due words files) plan × (after ≡ appended before (report_of plan))
+-- a status of a refusal has its cause, and its line was told
+pub record IsFaulted (asked : Command) (files : Option FileMap) (load_failed write_failed : Type 0) (before after : Option (List ℕ)) (status : ℕ) : Type 0 where
+  pub refusal : Refusal
+  pub status_is : refusal_status refusal ≡ status
+  pub cause : RefusalCause (due asked) files load_failed refusal
+  pub line : Tells write_failed before after (refusal_line refusal)
 
--- what was written when a fault came, before its line
-abbrev pub WroteBefore : List (List ℕ) → Option FileMap → Option (List ℕ) → Option (List ℕ) → Fault → Type 0
-WroteBefore words files before after Usage = after ≡ before
-WroteBefore words files before after (Refused refusal) = after ≡ before
-WroteBefore words files before after Write = WritesPart words files before after
-WroteBefore words files before after Save = WritesAll words files before after
-WroteBefore words files before after Memory = (after ≡ before) ⊎ WritesPart words files before after
+-- Status 7: the write failed, a front part of the output was written, and all files stay; or the save failed, and the
+-- whole output was written.
+abbrev pub FailsOutside : Command → Option FileMap → Type 0 → Type 0 → Type 0 → Option (List ℕ) → Option (List ℕ) → Type 0
+FailsOutside asked files write_failed save_failed files_stay before after =
+    (write_failed × files_stay × WritesPart asked files before after) ⊎ (save_failed × WritesAll asked files before after)
 
--- a fault with this status has its cause, and its line was told
-pub record IsFaulted (words : List (List ℕ)) (files : Option FileMap) (load_failed write_failed save_failed : Type 0) (before after : Option (List ℕ)) (status : ℕ) : Type 0 where
-  pub fault : Fault
-  pub status_is : status_of fault ≡ status
-  pub cause : StopsAt words files load_failed write_failed save_failed fault
-  pub line : Tells write_failed before after (fault_line words fault)
+-- what may be written in part before the line for want of memory: the output that is due, or the line of the refusal that
+-- has its cause
+abbrev pub CanPrecede : Command → Option FileMap → Type 0 → List ℕ → Type 0
+CanPrecede asked files load_failed piece =
+    ((outcome : Outcome) × IsDue (due asked) files outcome × (piece ≡ outcome.bytes)) ⊎ ((refusal : Refusal) × RefusalCause (due asked) files load_failed refusal × (piece ≡ refusal_line refusal))
 
--- Status 7: the write failed, a front part of the report was written, and all files stay; or the save failed, and the
--- whole report was written.
-abbrev pub FailsOutside : List (List ℕ) → Option FileMap → Type 0 → Type 0 → Type 0 → Option (List ℕ) → Option (List ℕ) → Type 0
-FailsOutside words files write_failed save_failed files_stay before after =
-    (write_failed × files_stay × WritesPart words files before after) ⊎ (save_failed × WritesAll words files before after)
+-- Status 8: a front part of the line for want of memory, and before it nothing, or a front part of what can precede it.
+abbrev pub RunsOut : Command → Option FileMap → Type 0 → Option (List ℕ) → Option (List ℕ) → Type 0
+RunsOut asked files load_failed before after =
+    GainsPrefix before after memory_line ⊎ ((piece : List ℕ) × CanPrecede asked files load_failed piece × GainsBoth before after piece memory_line)
 
--- what may be written in part before the line for want of memory: the report of the plan that is due, or the line of another status
-abbrev pub CanPrecede : List (List ℕ) → Option FileMap → List ℕ → Type 0
-CanPrecede words files piece =
-    ((plan : Plan) × IsDue (told_due words files) plan × (piece ≡ report_of plan)) ⊎ ((fault : Fault) × (status_of fault ≢ 8) × (piece ≡ fault_line words fault))
-
--- Status 8: a front part of the line for want of memory, and before it nothing, or a front part of the report that is due or
--- of another status's line.
-abbrev pub RunsOut : List (List ℕ) → Option FileMap → Option (List ℕ) → Option (List ℕ) → Type 0
-RunsOut words files before after =
-    GainsPrefix before after memory_line ⊎ ((piece : List ℕ) × CanPrecede words files piece × GainsBoth before after piece memory_line)
-
--- the status that is due, or want of memory: a plan ends with 0 or a fault of the outside, a refused file with its status
-abbrev pub IsDueStatus : Finding Plan → ℕ → Type 0
-IsDueStatus (Ok plan) status = (status ≡ 0) ⊎ (status ≡ 7) ⊎ (status ≡ 8)
+-- the status that is due, or want of memory: an outcome ends with 0 or a fault of the outside, a refused file with its status
+abbrev pub IsDueStatus : Finding Outcome → ℕ → Type 0
+IsDueStatus (Ok outcome) status = (status ≡ 0) ⊎ (status ≡ 7) ⊎ (status ≡ 8)
 IsDueStatus (Err refusal) status = (status ≡ refusal_status refusal) ⊎ (status ≡ 8)
+
+-- no name but the one under which the command saves changes, and none without a command
+abbrev pub ChangesOnlySaved : Option Command → Option FileMap → Option FileMap → Type 0
+ChangesOnlySaved None files files' = files' ≡ files
+ChangesOnlySaved (Some asked) files files' = ChangesOnly (saved_name asked) files files'
+
+-- status 8 without a command: a front part of the line for want of memory, and before it one of the usage line
+abbrev pub UsageRunsOut : Option (List ℕ) → Option (List ℕ) → Type 0
+UsageRunsOut before after = GainsPrefix before after memory_line ⊎ GainsBoth before after usage_line memory_line
+
+-- what a command promises of its status, taken together
+pub record Obeys (asked : Command) (files files' : Option FileMap) (load_failed write_failed save_failed : Type 0) (before after : Option (List ℕ)) (status : ℕ) : Type 0 where
+  pub exits : is_exit_status status ≡ true
+  pub not_usage : status ≢ 1
+  pub done : status ≡ 0 → IsDone asked files files' before after
+  pub played : status ≡ 0 → IsPlayed asked files files' before after
+  pub faulted : (status ≡ 2) ⊎ (status ≡ 3) ⊎ (status ≡ 4) ⊎ (status ≡ 6) ⊎ (status ≡ 9) → IsFaulted asked files load_failed write_failed before after status
+  pub is_due : (load_failed → ⊥) → IfSome files (λ held. IsDueStatus (due asked held) status)
+  pub complete : (load_failed → ⊥) → (write_failed → ⊥) → (save_failed → ⊥) → IfSome files (λ held. IsOk (due asked held) → (status ≡ 0) ⊎ (status ≡ 8))
+  pub outside : status ≡ 7 → FailsOutside asked files write_failed save_failed (files' ≡ files) before after
+  pub runs_out : status ≡ 8 → RunsOut asked files load_failed before after
+  pub unsaved : status ≢ 0 → status ≢ 7 → files' ≡ files
+  pub others_stay : ChangesOnly (saved_name asked) files files'

@@ -1,87 +1,47 @@
--- Why an input file is refused: the exit status, and the line that tells it. Both are the project's own.
-use Rattle.std.specs.Prelude.{ℕ, List, [], ◌∷◌, ◌++◌, codes, decimal, ℤ}
-use Rattle.std.specs.Fmt.{signed_decimal}
-use Rattle.image_file.specs.declared.error.ImagesError.{ImagesError}
-use Rattle.image_file.specs.declared.error.ImagesError.TheVariants as file
-use Rattle.platform_file.specs.declared.error.PlatformError.{PlatformError}
-use Rattle.platform_file.specs.declared.error.PlatformError.TheVariants as platform
-use Rattle.platform_file.specs.declared.schedule_error.ScheduleError.{ScheduleError}
-use Rattle.platform_file.specs.declared.schedule_error.ScheduleError.TheVariants as schedule
+-- Why an input file is refused: the exit status, and the line that tells it. Both are the project's own, as the lines of the
+-- other faults are.
+use Rattle.std.specs.Prelude.{ℕ, List, [], ◌∷◌, ◌++◌, codes, decimal}
+use Rattle.image_file.specs.Texts.{images_error_text}
+use Rattle.platform_file.specs.Texts.{platform_error_text}
+use Rattle.schedule_file.specs.Texts.{schedule_error_text}
+use Rattle.smbase_reloc.specs.Words.{refusal_text as relocation_text}
 use Rattle.smm_player.specs.declared.images.ImagesFault.{ImagesFault}
-use Rattle.smm_player.specs.declared.images.ImagesFault.TheVariants as images
+use Rattle.smm_player.specs.declared.images.ImagesFault.TheVariants.{File, KindDiffers, CountDiffers, NotRelocated}
 use Rattle.smm_player.specs.declared.refusal.Refusal.{Refusal}
 use Rattle.smm_player.specs.declared.refusal.Refusal.TheVariants.{Read, TooLong, Platform, Images, Schedule, NotBuilt}
-use Rattle.smm_player.specs.Files.{limit_text}
-use Rattle.smm_player.specs.Words.{name_of}
 
 -- the exit status of a refused input file
 abbrev pub refusal_status : Refusal → ℕ
-refusal_status (Read input) = 6
-refusal_status (TooLong input) = 6
+refusal_status (Read name) = 6
+refusal_status (TooLong name limit) = 6
 refusal_status (Platform error) = 2
 refusal_status (Images fault) = 3
 refusal_status (Schedule error) = 4
-refusal_status (NotBuilt input) = 9
+refusal_status (NotBuilt name) = 9
 
--- a line of a text and a key
-abbrev pub keyed : List ℕ → List ℕ → List ℕ
-keyed front key = front ++ key ++ 10 ∷ []
+-- why the image file doesn't serve
+abbrev pub images_fault_text : ImagesFault → List ℕ
+images_fault_text (File error) = images_error_text error
+images_fault_text KindDiffers = codes "kind-differs"
+images_fault_text (CountDiffers processors count) = codes "count-differs " ++ decimal processors ++ codes " " ++ decimal count
+images_fault_text (NotRelocated error) = relocation_text error
 
--- a line of a text and a number
-abbrev pub numbered : List ℕ → ℕ → List ℕ
-numbered front number = front ++ decimal number ++ 10 ∷ []
+-- why an input file is refused
+abbrev pub fault_text : Refusal → List ℕ
+fault_text (Read name) = codes "fault read " ++ name
+fault_text (TooLong name limit) = codes "fault too-long " ++ name ++ codes " " ++ decimal limit
+fault_text (Platform error) = codes "fault platform " ++ platform_error_text error
+fault_text (Images fault) = codes "fault images " ++ images_fault_text fault
+fault_text (Schedule error) = codes "fault schedule " ++ schedule_error_text error
+fault_text (NotBuilt name) = codes "fault not-built " ++ name
 
--- the line that tells of no memory
+-- the line that tells it, with the line end 0AH
+unfoldable pub refusal_line : Refusal → List ℕ
+refusal_line refusal = fault_text refusal ++ 10 ∷ []
+
+-- the line for words that are of no command's form, and the one for want of memory
+abbrev pub usage_line : List ℕ
+usage_line = codes "fault usage" ++ 10 ∷ []
+
 abbrev pub memory_line : List ℕ
 memory_line = codes "fault memory" ++ 10 ∷ []
-
--- the line of a number of the platform file, which may be negative
-abbrev pub range_line : List ℕ → ℤ → List ℕ
-range_line key number = codes "fault platform range " ++ key ++ codes " " ++ signed_decimal number ++ 10 ∷ []
-
--- the line that tells why the platform file is none
-abbrev pub platform_line : PlatformError → List ℕ
-platform_line platform.NotToml = codes "fault platform not-toml" ++ 10 ∷ []
-platform_line (platform.Missing key) = keyed (codes "fault platform missing ") key
-platform_line (platform.WrongType key) = keyed (codes "fault platform type ") key
-platform_line (platform.Word key) = keyed (codes "fault platform word ") key
-platform_line (platform.Range key number) = range_line key number
-platform_line (platform.Unknown key) = keyed (codes "fault platform unknown ") key
-platform_line (platform.TooLarge events) = numbered (codes "fault platform too-large ") events
-platform_line platform.NoMemory = memory_line
-
--- the line that tells why a file is no image file
-abbrev pub image_file_line : ImagesError → List ℕ
-image_file_line (file.Short length) = numbered (codes "fault images short ") length
-image_file_line file.Magic = codes "fault images magic" ++ 10 ∷ []
-image_file_line (file.Version version) = numbered (codes "fault images version ") version
-image_file_line (file.Kind kind) = numbered (codes "fault images kind ") kind
-image_file_line (file.Count count) = numbered (codes "fault images count ") count
-image_file_line (file.Long length) = numbered (codes "fault images long ") length
-image_file_line file.NoMemory = memory_line
-
--- the line that tells why the image file doesn't serve; each platform that is built has one processor
-abbrev pub images_line : ImagesFault → List ℕ
-images_line (images.File error) = image_file_line error
-images_line images.KindDiffers = codes "fault images kind-differs" ++ 10 ∷ []
-images_line (images.CountDiffers count) = numbered (codes "fault images count-differs 1 ") count
-
--- the line of an actor that the platform hasn't, behind the byte at which its item starts
-abbrev pub actor_line : ℕ → ℕ → List ℕ
-actor_line at actor = codes "fault schedule actor " ++ decimal at ++ codes " " ++ decimal actor ++ 10 ∷ []
-
--- the line that tells why the schedule is none
-abbrev pub schedule_line : ScheduleError → List ℕ
-schedule_line (schedule.Token at) = numbered (codes "fault schedule token ") at
-schedule_line (schedule.Actor at actor) = actor_line at actor
-schedule_line schedule.TooLong = codes "fault schedule too-long" ++ 10 ∷ []
-schedule_line schedule.NoMemory = memory_line
-
--- the line that tells why an input file is refused, with the line end 0AH
-abbrev pub refusal_line : List (List ℕ) → Refusal → List ℕ
-refusal_line words (Read input) = codes "fault read " ++ name_of words input ++ 10 ∷ []
-refusal_line words (TooLong input) = codes "fault too-long " ++ name_of words input ++ limit_text input
-refusal_line words (Platform error) = platform_line error
-refusal_line words (Images fault) = images_line fault
-refusal_line words (Schedule error) = schedule_line error
-refusal_line words (NotBuilt input) = codes "fault not-built " ++ name_of words input ++ 10 ∷ []

@@ -2,25 +2,22 @@
 #![tactic(auto)]
 
 mod command;
+mod ending;
 mod fault;
-mod files;
-mod finish;
 mod images;
-mod input;
+mod inputs;
 mod lines;
 mod load;
+mod memory_play;
+mod playing;
 mod refusal;
-mod replay;
 mod report;
-mod words;
+mod step;
 
-pub use command::play;
 pub use fault::Fault;
 pub use images::ImagesFault;
-pub use input::Input;
 pub use lines::push_event;
+pub use memory_play::play_in_memory;
+pub use playing::play;
 pub use refusal::Refusal;
 pub use report::write_report;
-
-#[cfg(test)]
-mod tests;

@@ -1,107 +1,148 @@
-ghost use Rattle.std.specs.Prelude.{◌≡◌, ◌≤◌, [], ◌∷◌, Ok, All, IfErr, IfOk, IsTrue, if◌then◌else◌, map, string_bytes};
+ghost use Rattle.std.specs.Prelude.{◌≡◌, ◌≤◌, ◌<◌, Ok, All, IfErr, IfOk, IsTrue, length};
+ghost use Rattle.smm_base.specs.Calls.{Leads};
 ghost use Rattle.smm_base.specs.Faults.{Rose};
 ghost use Rattle.cpu_table.specs.Data.{data_of};
-ghost use Rattle.rendezvous_core.specs.Setups.{is_built};
-ghost use Rattle.smm_player.specs.declared.input.Input.TheVariants.{Platform, Images, Schedule};
-ghost use Rattle.smm_player.specs.declared.fault.Fault.TheVariants.{Refused};
-ghost use Rattle.smm_player.specs.declared.refusal.Refusal.TheVariants.{NotBuilt};
-ghost use Rattle.smm_player.specs.Plan.{plan, IsPlayable};
-ghost use Rattle.smm_player.specs.Verdict.{loaded, platform_found, platform_due, images_found, images_due, schedule_found, schedule_due, told_at, told_due, HasCause, IsDue, StopsReading};
-ghost use Rattle.smm_player.specs.Words.{texts, name_of};
+ghost use Rattle.rendezvous_core.specs.Setups.{is_built, AreImagesOf};
+ghost use Rattle.smm_player.specs.declared.refusal.Refusal.TheVariants.{Read as read, TooLong as too_long, NotBuilt as not_built};
+ghost use Rattle.smm_player.specs.Plan.{plan_of, IsPlayable};
+ghost use Rattle.smm_player.specs.Due.{loaded, if_built, platform_found, platform_due, images_found, images_due, schedule_found, schedule_due, plan_with, plan_on, plan_due, IsDue};
+ghost use Rattle.smm_player.specs.Loading.{IsLoadFault, IsRefusedFor, LoadCause, StopsReading};
 
+use crate::command::Step;
 use crate::fault::{Fault, images_fault, platform_fault, schedule_fault};
-use crate::files::limit;
-use crate::images::single_image;
-use crate::input::Input;
+use crate::images::{ImagesFault, serving};
+use crate::inputs::Inputs;
 use crate::refusal::Refusal;
-use crate::words::input_name;
-use cpu_table::Setup;
+use cpu_table::{Setup, Text};
 use image_file::read_images;
 use platform_file::{read_platform, read_schedule};
-use rendezvous_core::is_built;
+use rendezvous_core::{is_built, start_fault};
 use save_state_map::Image;
 use smm_base::{LoadError, MapKind, Store};
 use std::alloc::Global;
 
-/// What a replay works on.
-#[derive(Drop)]
-pub(crate) struct Inputs {
-    pub(crate) setup: Setup,
-    pub(crate) image: Image,
-    pub(crate) schedule: Vec<u16>,
+/// How many bytes a platform file has at most.
+const PLATFORM_LIMIT: u64 = 1_048_576;
+
+/// How many bytes an image file has at most: as many as 64 images of the larger kind take.
+const IMAGES_LIMIT: u64 = 65_548;
+
+/// How many bytes a schedule has at most.
+const SCHEDULE_LIMIT: u64 = 4_194_304;
+
+// The fault of a file that was not loaded.
+fn unread(alloc: Global, name: &Text) -> Fault
+    ensures { IsRefusedFor (read name.now) result }
+{
+    match Text::from_str(alloc, name.as_str()) {
+        Ok(name) => Fault::Refused(Refusal::Read(name)),
+        Err(_) => Fault::Memory,
+    }
+}
+
+// The fault of a file that is longer than its limit.
+fn too_long(alloc: Global, name: &Text, limit: u64) -> Fault
+    ensures { IsRefusedFor (too_long name.now limit) result }
+{
+    match Text::from_str(alloc, name.as_str()) {
+        Ok(name) => Fault::Refused(Refusal::TooLong(name, limit)),
+        Err(_) => Fault::Memory,
+    }
+}
+
+// The fault of a file that asks for a part that is not built.
+fn not_built(alloc: Global, name: &Text) -> Fault
+    ensures { IsRefusedFor (not_built name.now) result }
+{
+    match Text::from_str(alloc, name.as_str()) {
+        Ok(name) => Fault::Refused(Refusal::NotBuilt(name)),
+        Err(_) => Fault::Memory,
+    }
+}
+
+// The fault by the error of a load.
+fn load_fault(alloc: Global, name: &Text, limit: u64, error: LoadError) -> Fault
+    ensures { IsLoadFault limit name.now error result }
+{
+    match error {
+        LoadError::Failed => unread(alloc, name),
+        LoadError::Missing => unread(alloc, name),
+        LoadError::TooLong => too_long(alloc, name, limit),
+        LoadError::NoMemory => Fault::Memory,
+    }
 }
 
 // The bytes of an input file.
-fn load_input<F: Store>(
+fn load_file<F: Store>(
     alloc: Global,
-    words: &Vec<String>,
+    name: &Text,
+    limit: u64,
     store: &mut F,
-    input: Input,
 ) -> Result<Vec<u8>, Fault>
-    ensures due { IfOk result (λ bytes. IsDue (told_at (loaded input) (name_of (texts words.now.items) input) (F.files store.old)) bytes.items) }
-    ensures cause { IfErr result (HasCause (told_at (loaded input) (name_of (texts words.now.items) input) (F.files store.old)) (Rose (F.failed_loads store.old) (F.failed_loads store.new))) }
+    ensures due { IfOk result (λ bytes. IsDue (λ held. loaded limit name.now (held name.now)) (F.files store.old) bytes.items) }
+    ensures cause { IfErr result (LoadCause (λ held. loaded limit name.now (held name.now)) (F.files store.old) (Rose (F.failed_loads store.old) (F.failed_loads store.new))) }
     ensures files_stay { F.files store.new ≡ F.files store.old }
-    ensures loads_never_fall { F.failed_loads store.old ≤ F.failed_loads store.new }
-    ensures saves_never_fall { F.failed_saves store.old ≤ F.failed_saves store.new }
+    ensures moved { Leads F.moves store.old store.new }
 {
-    match store.load(alloc, input_name(words, input), limit(input)) {
+    match store.load(alloc, name.as_str(), limit) {
         Ok(bytes) => Ok(bytes),
-        Err(LoadError::Failed) => Err(Fault::Refused(Refusal::Read(input))),
-        Err(LoadError::Missing) => Err(Fault::Refused(Refusal::Read(input))),
-        Err(LoadError::TooLong) => Err(Fault::Refused(Refusal::TooLong(input))),
-        Err(LoadError::NoMemory) => Err(Fault::Memory),
+        Err(error) => Err(load_fault(alloc, name, limit, error)),
     }
 }
 
 // A setup, where the replay plays it.
-fn built_only(setup: Setup) -> Result<Setup, Fault>
-    ensures value { result ≡ (if is_built (data_of setup) then Ok setup else Err (Refused (NotBuilt Platform))) }
-    ensures built { IfOk result (λ setup. IsTrue (is_built (data_of setup))) }
+fn built_only(alloc: Global, name: &Text, setup: Setup) -> Result<Setup, Fault>
+    ensures found { IfOk result (λ built. if_built name.now (data_of setup) ≡ Ok (data_of built)) }
+    ensures built { IfOk result (λ built. IsTrue (is_built (data_of built))) }
+    ensures cause { IfErr result (StopsReading (if_built name.now (data_of setup))) }
 {
     if is_built(&setup) {
         Ok(setup)
     } else {
-        Err(Fault::Refused(Refusal::NotBuilt(Input::Platform)))
+        Err(not_built(alloc, name))
     }
 }
 
 // The setup of a platform file.
-fn setup_of(alloc: Global, bytes: &[u8]) -> Result<Setup, Fault>
-    ensures found { IfOk result (λ setup. platform_found bytes.now ≡ Ok (data_of setup)) }
+fn setup_of(alloc: Global, name: &Text, bytes: &[u8]) -> Result<Setup, Fault>
+    ensures found { IfOk result (λ setup. platform_found name.now bytes.now ≡ Ok (data_of setup)) }
     ensures built { IfOk result (λ setup. IsTrue (is_built (data_of setup))) }
-    ensures cause { IfErr result (StopsReading (platform_found bytes.now)) }
+    ensures cause { IfErr result (StopsReading (platform_found name.now bytes.now)) }
 {
     match read_platform(alloc, bytes) {
-        Ok(setup) => built_only(setup),
+        Ok(setup) => built_only(alloc, name, setup),
         Err(error) => Err(platform_fault(error)),
     }
 }
 
 // Loads the platform, and reads it.
-fn load_platform<F: Store>(
-    alloc: Global,
-    words: &Vec<String>,
-    store: &mut F,
-) -> Result<Setup, Fault>
+fn load_platform<F: Store>(alloc: Global, names: &Step, store: &mut F) -> Result<Setup, Fault>
     ensures built { IfOk result (λ setup. IsTrue (is_built (data_of setup))) }
-    ensures due { IfOk result (λ setup. IsDue (told_at platform_due (name_of (texts words.now.items) Platform) (F.files store.old)) (data_of setup)) }
-    ensures cause { IfErr result (HasCause (told_at platform_due (name_of (texts words.now.items) Platform) (F.files store.old)) (Rose (F.failed_loads store.old) (F.failed_loads store.new))) }
+    ensures due { IfOk result (λ setup. IsDue (platform_due names.now) (F.files store.old) (data_of setup)) }
+    ensures cause { IfErr result (LoadCause (platform_due names.now) (F.files store.old) (Rose (F.failed_loads store.old) (F.failed_loads store.new))) }
     ensures files_stay { F.files store.new ≡ F.files store.old }
-    ensures loads_never_fall { F.failed_loads store.old ≤ F.failed_loads store.new }
-    ensures saves_never_fall { F.failed_saves store.old ≤ F.failed_saves store.new }
+    ensures moved { Leads F.moves store.old store.new }
 {
-    let bytes = load_input(alloc, words, store, Input::Platform)?;
-    setup_of(alloc, &bytes)
+    match load_file(alloc, &names.platform, PLATFORM_LIMIT, store) {
+        Ok(bytes) => setup_of(alloc, &names.platform, &bytes),
+        Err(fault) => Err(fault),
+    }
 }
 
-// The image of an image file, on a platform of the kind.
-fn image_of(alloc: Global, bytes: &[u8], kind: MapKind) -> Result<Image, Fault>
-    ensures found { IfOk result (λ image. images_found kind bytes.now ≡ Ok image) }
-    ensures kind { IfOk result (λ image. image.kind ≡ kind) }
-    ensures cause { IfErr result (StopsReading (images_found kind bytes.now)) }
+// The images of an image file, on a platform of the kind and of so many processors.
+fn images_of(
+    alloc: Global,
+    bytes: &[u8],
+    kind: MapKind,
+    processors: u16,
+) -> Result<Vec<Image>, Fault>
+    ensures found { IfOk result (λ images. images_found kind processors bytes.now ≡ Ok images.items) }
+    ensures count { IfOk result (λ images. length images.items ≡ processors) }
+    ensures kind { IfOk result (λ images. All (λ image. image.kind ≡ kind) images.items) }
+    ensures cause { IfErr result (StopsReading (images_found kind processors bytes.now)) }
 {
     match read_images(alloc, bytes) {
-        Ok(images) => single_image(&images, kind),
+        Ok(images) => serving(images, kind, processors),
         Err(error) => Err(images_fault(error)),
     }
 }
@@ -109,19 +150,20 @@ fn image_of(alloc: Global, bytes: &[u8], kind: MapKind) -> Result<Image, Fault>
 // Loads the images, and reads them.
 fn load_images<F: Store>(
     alloc: Global,
-    words: &Vec<String>,
+    names: &Step,
+    setup: &Setup,
     store: &mut F,
-    kind: MapKind,
-) -> Result<Image, Fault>
-    ensures kind { IfOk result (λ image. image.kind ≡ kind) }
-    ensures due { IfOk result (λ image. IsDue (told_at (images_due kind) (name_of (texts words.now.items) Images) (F.files store.old)) image) }
-    ensures cause { IfErr result (HasCause (told_at (images_due kind) (name_of (texts words.now.items) Images) (F.files store.old)) (Rose (F.failed_loads store.old) (F.failed_loads store.new))) }
+) -> Result<Vec<Image>, Fault>
+    ensures serve { IfOk result (λ images. AreImagesOf (data_of setup.now) images.items) }
+    ensures due { IfOk result (λ images. IsDue (images_due names.now (data_of setup.now)) (F.files store.old) images.items) }
+    ensures cause { IfErr result (LoadCause (images_due names.now (data_of setup.now)) (F.files store.old) (Rose (F.failed_loads store.old) (F.failed_loads store.new))) }
     ensures files_stay { F.files store.new ≡ F.files store.old }
-    ensures loads_never_fall { F.failed_loads store.old ≤ F.failed_loads store.new }
-    ensures saves_never_fall { F.failed_saves store.old ≤ F.failed_saves store.new }
+    ensures moved { Leads F.moves store.old store.new }
 {
-    let bytes = load_input(alloc, words, store, Input::Images)?;
-    image_of(alloc, &bytes, kind)
+    match load_file(alloc, &names.images, IMAGES_LIMIT, store) {
+        Ok(bytes) => images_of(alloc, &bytes, setup.kind, setup.processors),
+        Err(fault) => Err(fault),
+    }
 }
 
 // The actors of a schedule, on a platform of so many processors.
@@ -139,41 +181,91 @@ fn actors_of(alloc: Global, bytes: &[u8], processors: u16) -> Result<Vec<u16>, F
 // Loads the schedule, and reads it.
 fn load_schedule<F: Store>(
     alloc: Global,
-    words: &Vec<String>,
+    names: &Step,
+    setup: &Setup,
     store: &mut F,
-    processors: u16,
 ) -> Result<Vec<u16>, Fault>
-    ensures known { IfOk result (λ actors. All (λ actor. actor ≤ processors) actors.items) }
-    ensures due { IfOk result (λ actors. IsDue (told_at (schedule_due processors) (name_of (texts words.now.items) Schedule) (F.files store.old)) actors.items) }
-    ensures cause { IfErr result (HasCause (told_at (schedule_due processors) (name_of (texts words.now.items) Schedule) (F.files store.old)) (Rose (F.failed_loads store.old) (F.failed_loads store.new))) }
+    ensures known { IfOk result (λ actors. All (λ actor. actor ≤ setup.now.processors) actors.items) }
+    ensures due { IfOk result (λ actors. IsDue (schedule_due names.now (data_of setup.now)) (F.files store.old) actors.items) }
+    ensures cause { IfErr result (LoadCause (schedule_due names.now (data_of setup.now)) (F.files store.old) (Rose (F.failed_loads store.old) (F.failed_loads store.new))) }
     ensures files_stay { F.files store.new ≡ F.files store.old }
-    ensures loads_never_fall { F.failed_loads store.old ≤ F.failed_loads store.new }
-    ensures saves_never_fall { F.failed_saves store.old ≤ F.failed_saves store.new }
+    ensures moved { Leads F.moves store.old store.new }
 {
-    let bytes = load_input(alloc, words, store, Input::Schedule)?;
-    actors_of(alloc, &bytes, processors)
+    match load_file(alloc, &names.schedule, SCHEDULE_LIMIT, store) {
+        Ok(bytes) => actors_of(alloc, &bytes, setup.processors),
+        Err(fault) => Err(fault),
+    }
+}
+
+// Loads what is left once the platform and the images are there.
+fn load_with<F: Store>(
+    alloc: Global,
+    names: &Step,
+    setup: Setup,
+    images: Vec<Image>,
+    store: &mut F,
+) -> Result<Inputs, Fault>
+    requires built { IsTrue (is_built (data_of setup)) }
+    requires serve { AreImagesOf (data_of setup) images.items }
+    ensures playable { IfOk result (λ inputs. IsPlayable (plan_of inputs)) }
+    ensures due { IfOk result (λ inputs. IsDue (plan_with names.now (data_of setup) images.items) (F.files store.old) (plan_of inputs)) }
+    ensures cause { IfErr result (LoadCause (plan_with names.now (data_of setup) images.items) (F.files store.old) (Rose (F.failed_loads store.old) (F.failed_loads store.new))) }
+    ensures files_stay { F.files store.new ≡ F.files store.old }
+    ensures moved { Leads F.moves store.old store.new }
+{
+    match load_schedule(alloc, names, &setup, store) {
+        Ok(actors) => {
+            match start_fault(&setup, &images) {
+                None => {
+                    Ok(Inputs {
+                        setup,
+                        images,
+                        actors,
+                    })
+                }
+                Some(error) => {
+                    Err(Fault::Refused(Refusal::Images(ImagesFault::NotRelocated(error))))
+                }
+            }
+        }
+        Err(fault) => Err(fault),
+    }
+}
+
+// Loads what is left once the platform is there.
+fn load_on<F: Store>(
+    alloc: Global,
+    names: &Step,
+    setup: Setup,
+    store: &mut F,
+) -> Result<Inputs, Fault>
+    requires { IsTrue (is_built (data_of setup)) }
+    ensures playable { IfOk result (λ inputs. IsPlayable (plan_of inputs)) }
+    ensures due { IfOk result (λ inputs. IsDue (plan_on names.now (data_of setup)) (F.files store.old) (plan_of inputs)) }
+    ensures cause { IfErr result (LoadCause (plan_on names.now (data_of setup)) (F.files store.old) (Rose (F.failed_loads store.old) (F.failed_loads store.new))) }
+    ensures files_stay { F.files store.new ≡ F.files store.old }
+    ensures moved { Leads F.moves store.old store.new }
+{
+    match load_images(alloc, names, &setup, store) {
+        Ok(images) => load_with(alloc, names, setup, images, store),
+        Err(fault) => Err(fault),
+    }
 }
 
 // Loads and reads the three input files, one after another.
 pub(crate) fn load_inputs<F: Store>(
     alloc: Global,
-    words: &Vec<String>,
+    names: &Step,
     store: &mut F,
 ) -> Result<Inputs, Fault>
-    ensures known { IfOk result (λ inputs. All (λ actor. actor ≤ inputs.setup.processors) inputs.schedule.items) }
-    ensures playable { IfOk result (λ inputs. IsPlayable (plan (data_of inputs.setup) inputs.image inputs.schedule.items)) }
-    ensures due { IfOk result (λ inputs. IsDue (told_due (texts words.now.items) (F.files store.old)) (plan (data_of inputs.setup) inputs.image inputs.schedule.items)) }
-    ensures cause { IfErr result (HasCause (told_due (texts words.now.items) (F.files store.old)) (Rose (F.failed_loads store.old) (F.failed_loads store.new))) }
+    ensures playable { IfOk result (λ inputs. IsPlayable (plan_of inputs)) }
+    ensures due { IfOk result (λ inputs. IsDue (plan_due names.now) (F.files store.old) (plan_of inputs)) }
+    ensures cause { IfErr result (LoadCause (plan_due names.now) (F.files store.old) (Rose (F.failed_loads store.old) (F.failed_loads store.new))) }
     ensures files_stay { F.files store.new ≡ F.files store.old }
-    ensures loads_never_fall { F.failed_loads store.old ≤ F.failed_loads store.new }
-    ensures saves_never_fall { F.failed_saves store.old ≤ F.failed_saves store.new }
+    ensures moved { Leads F.moves store.old store.new }
 {
-    let setup = load_platform(alloc, words, store)?;
-    let image = load_images(alloc, words, store, setup.kind)?;
-    let schedule = load_schedule(alloc, words, store, setup.processors)?;
-    Ok(Inputs {
-        setup,
-        image,
-        schedule,
-    })
+    match load_platform(alloc, names, store) {
+        Ok(setup) => load_on(alloc, names, setup, store),
+        Err(fault) => Err(fault),
+    }
 }

@@ -1,4 +1,5 @@
-ghost use Rattle.std.specs.Prelude.{◌≡◌, ◌++◌, ◌≤◌, [], IsErrOf, OnErr, OnOk};
+ghost use Rattle.std.specs.Prelude.{◌≡◌, ◌++◌, [], IsErrOf, OnErr, OnOk};
+ghost use Rattle.smm_base.specs.Calls.{Leads};
 ghost use Rattle.smm_base.specs.Faults.{Rose};
 ghost use Rattle.smm_base.specs.Sink.{appended, GainsPrefix};
 ghost use Rattle.sync_words.specs.Texts.{event_line};
@@ -30,7 +31,7 @@ pub fn write_report<K: Sink>(
     ensures appends { OnOk result (K.written out.new ≡ appended (K.written out.old) (report_text processors events.now complete)) }
     ensures prefix { OnErr result (GainsPrefix (K.written out.old) (K.written out.new) (report_text processors events.now complete)) }
     ensures failed { IsErrOf result WriteError.Failed → Rose (K.faults out.old) (K.faults out.new) }
-    ensures never_falls { K.faults out.old ≤ K.faults out.new }
+    ensures moved { Leads K.moves out.old out.new }
 {
     let mut buffer = Vec::with_capacity(alloc, PIECE)?;
     write_lines(processors, events, &mut buffer, out)?;
@@ -49,7 +50,7 @@ fn write_lines<K: Sink>(
     ensures buffered { OnOk result (IsBuffered (K.written out.old) (K.written out.new) buffer.new.items (event_lines processors events.now)) }
     ensures prefix { OnErr result (GainsPrefix (K.written out.old) (K.written out.new) (event_lines processors events.now)) }
     ensures failed { IsErrOf result WriteError.Failed → Rose (K.faults out.old) (K.faults out.new) }
-    ensures never_falls { K.faults out.old ≤ K.faults out.new }
+    ensures moved { Leads K.moves out.old out.new }
 {
     for event in events {
         push_line(processors, event, buffer, out)?;
@@ -67,7 +68,7 @@ fn push_line<K: Sink>(
     ensures buffered { OnOk result (IsBuffered (K.written out.old) (K.written out.new) buffer.new.items (buffer.old.items ++ event_line processors event.now)) }
     ensures prefix { OnErr result (GainsPrefix (K.written out.old) (K.written out.new) buffer.old.items) }
     ensures failed { IsErrOf result WriteError.Failed → Rose (K.faults out.old) (K.faults out.new) }
-    ensures never_falls { K.faults out.old ≤ K.faults out.new }
+    ensures moved { Leads K.moves out.old out.new }
 {
     make_room(buffer, out)?;
     push_event(processors, event, buffer).map_err(|_| WriteError::NoMemory)
@@ -83,7 +84,7 @@ fn push_last_line<K: Sink>(
     ensures buffered { OnOk result (IsBuffered (K.written out.old) (K.written out.new) buffer.new.items (buffer.old.items ++ last_line events.now complete)) }
     ensures prefix { OnErr result (GainsPrefix (K.written out.old) (K.written out.new) buffer.old.items) }
     ensures failed { IsErrOf result WriteError.Failed → Rose (K.faults out.old) (K.faults out.new) }
-    ensures never_falls { K.faults out.old ≤ K.faults out.new }
+    ensures moved { Leads K.moves out.old out.new }
 {
     make_room(buffer, out)?;
     push_totals(events, complete, buffer).map_err(|_| WriteError::NoMemory)
@@ -94,7 +95,7 @@ fn make_room<K: Sink>(buffer: &mut Vec<u8>, out: &mut K) -> Result<(), WriteErro
     ensures buffered { OnOk result (IsBuffered (K.written out.old) (K.written out.new) buffer.new.items buffer.old.items) }
     ensures prefix { OnErr result (GainsPrefix (K.written out.old) (K.written out.new) buffer.old.items) }
     ensures failed { IsErrOf result WriteError.Failed → Rose (K.faults out.old) (K.faults out.new) }
-    ensures never_falls { K.faults out.old ≤ K.faults out.new }
+    ensures moved { Leads K.moves out.old out.new }
 {
     if buffer.len() > PIECE - LINE {
         write_all(out, buffer)?;
@@ -158,104 +159,4 @@ fn serves_wave(label: Label) -> bool
     ensures { result ≡ is_served label }
 {
     matches!(label, Label::Served(wave) if wave != 0)
-}
-
-#[cfg(test)]
-mod tests {
-    use super::{PIECE, write_report};
-    use smm_base::{MemSink, Sink, WriteError};
-    use std::test::Fail;
-    use sync_words::{Access, Event, Label, Register, Status, WordId};
-
-    // An event of the chipset, the last actor of one processor.
-    fn labelled(word: WordId, label: Label) -> Event {
-        Event {
-            actor: 1,
-            word,
-            access: Access::Put(1),
-            found: 0,
-            label,
-        }
-    }
-
-    #[test]
-    fn a_report_goes_out_whole_in_small_pieces(rt: HostRuntime) -> Result<(), Fail> {
-        let alloc = rt.alloc();
-        let events = [
-            labelled(WordId::Source, Label::Wave(1)),
-            labelled(WordId::Source, Label::Wave(2)),
-            labelled(WordId::Source, Label::Served(1)),
-            labelled(WordId::Source, Label::Served(0)),
-            labelled(WordId::Counter, Label::End),
-        ];
-        let mut sink = MemSink::new(alloc, 10, Vec::new(alloc))?;
-        write_report(alloc, 1, &events, false, &mut sink)?;
-        let want = b"chip source put:1 0 wave:1\n\
-            chip source put:1 0 wave:2\n\
-            chip source put:1 0 served:1\n\
-            chip source put:1 0 served:0\n\
-            chip counter put:1 0 end\n\
-            unfinished events 5 sessions 1 unserved 1\n";
-        assert_eq!(rt; sink.bytes().as_slice(), want.as_slice());
-        Ok(())
-    }
-
-    #[test]
-    fn a_report_stops_at_a_write_that_fails(rt: HostRuntime) -> Result<(), Fail> {
-        let alloc = rt.alloc();
-        let events = [labelled(WordId::Except, Label::Excepted(1))];
-        let mut sink = MemSink::new(alloc, 10, vec![in alloc; 2]?)?;
-        let written = write_report(alloc, 1, &events, true, &mut sink);
-        assert_eq!(rt; written, Err(WriteError::Failed));
-        assert_eq!(rt; sink.bytes().as_slice(), b"chip excep".as_slice());
-        Ok(())
-    }
-
-    // A sink that takes all, and remembers how long the longest piece was and how many there were.
-    #[derive(Drop)]
-    struct Pieces {
-        longest: usize,
-        count: u64,
-    }
-
-    impl Sink for Pieces {
-        ghost use Rattle.std.specs.Prelude.{None};
-
-        ghost written = { λ _. None };
-
-        ghost faults = { λ _. 0 };
-
-        fn write(&mut self, piece: &[u8]) -> Result<usize, WriteError> {
-            self.longest = self.longest.max(piece.len());
-            self.count = self.count.saturating_add(1);
-            Ok(piece.len())
-        }
-    }
-
-    #[test]
-    fn a_long_report_goes_out_in_pieces_that_fit(rt: HostRuntime) -> Result<(), Fail> {
-        let alloc = rt.alloc();
-        let longest = Event {
-            actor: 65_534,
-            word: WordId::Present(65_533),
-            access: Access::Claim(16_777_214, 16_777_213),
-            found: 16_777_212,
-            label: Label::Read {
-                cpu: 65_532,
-                register: Register::ProcessorId,
-                width: 4_294_967_295,
-                value: 18_446_744_073_709_551_615,
-                status: Status::InterruptPending,
-            },
-        };
-        let events = vec![in alloc; longest; 1000]?;
-        let mut sink = Pieces {
-            longest: 0,
-            count: 0,
-        };
-        write_report(alloc, 65_535, &events, true, &mut sink)?;
-        assert!(rt; sink.longest <= PIECE);
-        assert_eq!(rt; sink.count, 2);
-        Ok(())
-    }
 }

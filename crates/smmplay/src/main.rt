@@ -10,6 +10,12 @@ use std::{env, io};
 /// The status where there is no memory for the words. Nothing is written then.
 const NO_MEMORY: u8 = 8;
 
+/// The status where the words are of no command's form.
+const USAGE: u8 = 1;
+
+/// The forms of the commands, for the standard error.
+const FORMS: &str = "usage: smmplay step PLATFORM IMAGES SCHEDULE AFTER";
+
 /// The words behind the program's name. A word that isn't UTF-8 is an error.
 fn words<R: Env + AllocGlobal>(rt: &R) -> io::Result<Vec<String>> {
     let words = env::args(rt)?.skip(1).collect(rt.alloc())?;
@@ -27,5 +33,10 @@ fn main(rt: HostRuntime) -> ExitCode {
     };
     let mut store = DirStore::new(&rt);
     let mut out = StdSink::new(&rt);
-    ExitCode::from(play(rt.alloc(), &words, &mut store, &mut out))
+    let status = play(rt.alloc(), &words, &mut store, &mut out);
+    if status == USAGE {
+        // A form that isn't told changes no answer.
+        let _ = rt.eprintln(FORMS);
+    }
+    ExitCode::from(status)
 }

@@ -1,6 +1,7 @@
 use Rattle.std.proofs.Common.{sym, subst}
 use Rattle.smm_player.specs.declared.fault.Fault.{Fault}
-use Rattle.smm_player.specs.Verdict.{schedule_found, StopsReading}
+use Rattle.smm_player.specs.Due.{schedule_found}
+use Rattle.smm_player.specs.Loading.{StopsReading}
 use Rattle.smm_player.proofs.LoadLemmas.{schedule_is_found, schedule_stops}
 use Rattle.smm_player.proofs.load.actors_of.Goals as goal
 

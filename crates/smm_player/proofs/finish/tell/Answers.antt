@@ -1,6 +1,0 @@
-use Rattle.std.proofs.Common.{inl}
-use Rattle.smm_base.specs.Sink.{GainsPrefix-whole}
-use Rattle.smm_player.proofs.finish.tell.Goals as goal
-
-pub returns-in-Ok-clause-tells : goal.returns-in-Ok-clause-tells
-returns-in-Ok-clause-tells g c = inl (c.status.ensures, (GainsPrefix-whole _ _ _ c.in-Ok.ensures.appends, inl c.in-Ok.ensures.appends))

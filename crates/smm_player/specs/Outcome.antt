@@ -1,0 +1,41 @@
+-- What a command leaves: the bytes that it writes, and what it saves.
+use Rattle.std.specs.Prelude.{ℕ, ◌≡◌, List, Option, Some, IfSome, Ok}
+use Rattle.std.specs.Option.{option_map}
+use Rattle.smm_base.specs.Store.{FileMap}
+use Rattle.save_state_map.specs.Images.{ImageContents}
+use Rattle.rendezvous_core.specs.Worlds.{last_image}
+use Rattle.smm_player.specs.declared.command.Step.{Step}
+use Rattle.smm_player.specs.declared.command.Command.{Command}
+use Rattle.smm_player.specs.declared.command.Command.TheVariants as command
+use Rattle.smm_player.specs.Due.{Finding, and_then, plan_due}
+use Rattle.smm_player.specs.Plan.{Plan, world_of, report_of, file_of}
+
+-- a content under a name
+pub record Saving : Type 0 where
+  pub name : List ℕ
+  pub content : List ℕ
+
+-- what a command writes, and what it saves, if anything
+pub record Outcome : Type 0 where
+  pub bytes : List ℕ
+  pub saving : Option Saving
+
+-- an image is saved as the image file of it
+abbrev pub image_saving : List ℕ → ImageContents → Saving
+image_saving name image = record { name = name; content = file_of image }
+
+-- a step writes the report of the replay, and saves the image that the processor last resumed from
+abbrev pub step_outcome : Step → Plan → Outcome
+step_outcome names p = record { bytes = report_of p; saving = option_map (image_saving names.after) (last_image (world_of p) 0) }
+
+-- what is due for a command and the held files: its outcome, or the first refusal in the order of work
+abbrev pub due : Command → FileMap → Finding Outcome
+due (command.Step names) held = and_then (plan_due names held) (λ p. Ok (step_outcome names p))
+
+-- the name under which a command saves
+abbrev pub saved_name : Command → List ℕ
+saved_name (command.Step names) = names.after
+
+-- the saved name holds its content, where the store tells its files
+abbrev pub IsSaved : Option Saving → Option FileMap → Type 0
+IsSaved saving files = IfSome files (λ held. IfSome saving (λ s. held s.name ≡ Some s.content))
