@@ -1,7 +1,7 @@
 -- The definitions on small literals, by computation.
-use Rattle.std.proofs.Common.{◌≡◌, List, [], ◌∷◌, Some, None, refl, true}
+use Rattle.std.proofs.Common.{◌≡◌, Some, None, refl}
 use Rattle.smm_base.specs.declared.kinds.HandlerType.TheVariants.{Root, Typed}
-use Rattle.handler_registry.specs.Registrations.{Registrations, no_registrations, registered, unregistered, next_of, handler_at, is_live}
+use Rattle.handler_registry.specs.Registrations.{Registrations, no_registrations, registered, unregistered, next_of, handler_at}
 
 -- two on the root list with one of a GUID between them
 abbrev three : Registrations

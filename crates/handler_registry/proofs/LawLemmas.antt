@@ -1,13 +1,13 @@
 -- Lemmas on registrations over many calls.
-use Rattle.std.proofs.Common.{◌≡◌, ◌≢◌, ℕ, zero, suc, ◌+◌, ◌<◌, ◌≤◌, ◌==◌, Bool, true, false, not, cond, List, [], ◌∷◌, ◌++◌, length, get_or, Option, Some, None, refl, sym, ap, subst, ◌∙◌, inl, inr, arith, ne_eqb, IsTrue}
-use Rattle.std.specs.List.{find, filter, Contains}
+use Rattle.std.proofs.Common.{◌≡◌, ◌≢◌, ℕ, zero, suc, ◌+◌, ◌<◌, ◌≤◌, ◌==◌, Bool, true, false, not, cond, List, [], ◌∷◌, length, get_or, Option, Some, None, refl, sym, subst, ◌∙◌, inl, inr, arith, ne_eqb}
+use Rattle.std.specs.List.{find, Contains}
 use Rattle.std.specs.Option.{option_map, option_or}
 use Rattle.std.proofs.lemmas.Bool.{cases_eq}
 use Rattle.std.proofs.lemmas.Grind.{common_steps}
 use Rattle.std.proofs.lemmas.List.Folds.{find-append}
 use Rattle.smm_base.specs.declared.kinds.HandlerType.{HandlerType}
 use Rattle.handler_registry.specs.declared.registration.Registration.{Registration}
-use Rattle.handler_registry.specs.Registrations.{Registrations, no_registrations, has_serial, is_full, is_on_after, registered, unregistered, next_of, IsRising, IsRegistered}
+use Rattle.handler_registry.specs.Registrations.{Registrations, has_serial, is_full, is_on_after, registered, next_of, IsRising, IsRegistered}
 use Rattle.handler_registry.specs.Changes.{Change, changed, all_changed, live_at}
 use Rattle.handler_registry.specs.Changes.Change.{Register, Unregister}
 use Rattle.handler_registry.proofs.RisingLemmas.{others, rising_pushed, rising_filtered}

@@ -1,5 +1,5 @@
 -- What becomes of the registrations over many calls.
-use Rattle.std.specs.Prelude.{ℕ, Bool, cond, List, [], ◌∷◌, Option}
+use Rattle.std.specs.Prelude.{ℕ, cond, List, [], ◌∷◌, Option}
 use Rattle.std.specs.List.{find}
 use Rattle.smm_base.specs.declared.kinds.HandlerType.{HandlerType}
 use Rattle.handler_registry.specs.declared.registration.Registration.{Registration}
