@@ -52,7 +52,7 @@ unit_can part k h s =
     (exactly_can say.Spent Ends s (ends_can s)) (λ n. h (record s { left = n }))
 
 -- the seats after a job was run or collected
-now_free : (qs : List Seat) (c : ℕ) → slice_index_or (slice_set qs c Free) c Free ≡ Free
+pub now_free : (qs : List Seat) (c : ℕ) → slice_index_or (slice_set qs c Free) c Free ≡ Free
 now_free [] c = refl
 now_free (q ∷ qs) zero = refl
 now_free (q ∷ qs) (suc c) = now_free qs c

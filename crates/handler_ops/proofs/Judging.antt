@@ -18,7 +18,7 @@ one_step program p (Ran c j x S) es = run_step program p c j x S es
 pub begins : (program : Program) (w : ℕ) (kinds : List HandlerType) (s : Serving) → StandsFor program w kinds s (at_first w kinds s) []
 begins program w kinds s more = (λ x. x, λ x. x)
 
-regroup : (es : List Event) (e : Event) (more : List Event) → (es ++ e ∷ []) ++ more ≡ es ++ e ∷ more
+pub regroup : (es : List Event) (e : Event) (more : List Event) → (es ++ e ∷ []) ++ more ≡ es ++ e ∷ more
 regroup es e more = append_assoc es (e ∷ []) more
 
 pub follows : (program : Program) (w : ℕ) (kinds : List HandlerType) (s : Serving) (p : Place) (es : List Event) (e : Event)

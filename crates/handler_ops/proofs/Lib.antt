@@ -3,5 +3,7 @@ pub mod Runs
 pub mod Completion
 pub mod Numbers
 pub mod Judging
-pub mod Courses
+pub mod Seats
+pub mod Rows
+pub mod Sessions
 pub mod Examples

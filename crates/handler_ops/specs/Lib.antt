@@ -6,3 +6,4 @@ pub mod Places
 pub mod Stands
 pub mod Course
 pub mod Conditions
+pub mod Procedures

@@ -1,7 +1,15 @@
-ghost use Rattle.std.specs.Prelude.{◌↔◌, ℕ, List, [], ◌∷◌};
+ghost use Rattle.std.specs.Prelude.{◌≡◌, ◌↔◌, ℕ, Bool, true, List, [], ◌∷◌, Option};
+ghost use Rattle.cpu_table.specs.Data.{SetupData};
+ghost use Rattle.handler_registry.specs.Registrations.{Registrations};
+ghost use Rattle.smram_pool.specs.State.{PoolState};
+ghost use Rattle.handler_ops.specs.declared.desk.Desk.{Desk};
+ghost use Rattle.handler_ops.specs.declared.need.Need.TheVariants.{Finished};
+ghost use Rattle.handler_ops.specs.Beginning.{at_begin};
+ghost use Rattle.handler_ops.specs.Course.{Setting, need_of};
+ghost use Rattle.handler_ops.specs.Conditions.{IsSound, Turn, AllAllowed, said_by, course_of, beginning};
 ghost use Rattle.smm_base.specs.declared.kinds.HandlerType.{HandlerType};
 ghost use Rattle.handler_ops.specs.Serving.{Serving};
-ghost use Rattle.handler_ops.specs.Forms.{Program, Event, IsWhole};
+ghost use Rattle.handler_ops.specs.Forms.{Program, Event, IsWhole, IsPrefix};
 ghost use Rattle.handler_ops.specs.Places.{Place, StillToSay, Accepts, next, at_first, IsOver};
 ghost use Rattle.handler_ops.specs.Stands.{StandsFor, Follows, Leads, Kept};
 
@@ -21,4 +29,13 @@ pub fn standing()
     ensures follows { (program : Program) (w : ℕ) (kinds : List HandlerType) (s : Serving) (p : Place) (es : List Event) (e : Event) → StandsFor program w kinds s p es → Follows program w kinds s p es e }
     ensures whole { (program : Program) (w : ℕ) (kinds : List HandlerType) (s : Serving) (p : Place) (es : List Event) → StandsFor program w kinds s p es → IsOver p ↔ IsWhole program w kinds s es }
     ensures kept { (program : Program) (p : Place) (es : List Event) (q : Place) → Leads program p es q → Kept p.state q.state }
+{}
+
+/// The course of serving, over each list of found numbers and desks that its conditions allow: what was said so far, with
+/// the `run` of each job whose desk came back just before the label that collects it, can be made whole; and the need is
+/// `Finished` exactly where it is whole. The conditions hold at the beginning of serving.
+pub fn courses()
+    ensures prefix { (t : Setting) (w : ℕ) (kinds : List HandlerType) (s : Serving) (there : ℕ → Bool) (turns : List Turn) → IsSound t there s → AllAllowed t there (beginning w kinds s) turns → IsPrefix t.program w kinds s (said_by t (beginning w kinds s) turns) }
+    ensures finished { (t : Setting) (w : ℕ) (kinds : List HandlerType) (s : Serving) (there : ℕ → Bool) (turns : List Turn) (held : List (Option Desk)) → IsSound t there s → AllAllowed t there (beginning w kinds s) turns → (need_of t held (course_of t (beginning w kinds s) turns) ≡ Finished) ↔ IsWhole t.program w kinds s (said_by t (beginning w kinds s) turns) }
+    ensures begins { (d : SetupData) (g : Registrations) (m : PoolState) (t : Setting) (there : ℕ → Bool) → t.processors ≡ d.processors → there t.me ≡ true → IsSound t there (at_begin d g m) }
 {}

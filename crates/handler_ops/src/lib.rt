@@ -3,9 +3,11 @@
 #![tactic(auto)]
 
 mod desk;
+mod held;
 mod laws;
 mod need;
 
 pub use desk::{Desk, Job};
-pub use laws::{serving_lists, standing};
+pub use held::{Desks, Held};
+pub use laws::{courses, serving_lists, standing};
 pub use need::Need;

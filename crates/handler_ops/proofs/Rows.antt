@@ -137,12 +137,12 @@ some_due program kinds walks (Some (Started o)) g left h = tt
 some_due program kinds walks (Some (Awaited c into)) g left h = tt
 
 -- A move that a step makes.
-abbrev MoveOk : Program → Due → Serving → Move → Type 0
+abbrev pub MoveOk : Program → Due → Serving → Move → Type 0
 MoveOk program d s (Quiet b) = Unit {0}
 MoveOk program d s (Speaks l) = Permits program d s l
 MoveOk program d s (Takes c) = (j x : ℕ) (S : Status) → HasOpen (seat s c) j → Permits program d (ran c x S s) (say.Collect c)
 
-abbrev StepOk : Program → Due → Serving → Step → Type 0
+abbrev pub StepOk : Program → Due → Serving → Step → Type 0
 StepOk program d s step = (found : ℕ) (now : Desks) → MoveOk program d s (step.on found now)
 
 choice_ok : (program : Program) (d : Due) (s : Serving) (b : Bool) (m n : Move) → MoveOk program d s m → MoveOk program d s n
@@ -169,13 +169,13 @@ beyond [] c h = tt
 beyond (q ∷ qs) zero h = absurd (omega (arith, h))
 beyond (q ∷ qs) (suc c) h = beyond qs c (omega (arith, h))
 
-no_job_free : (q : Seat) → has_job q ≡ false → IsFree q
+pub no_job_free : (q : Seat) → has_job q ≡ false → IsFree q
 no_job_free Free h = tt
 no_job_free (Open j t) h = cc
 no_job_free (Done j t x S) h = cc
 
 -- what the case of the desk rule tells of the processor's job
-abbrev ReachTells : Seat → Reach → Type 0
+abbrev pub ReachTells : Seat → Reach → Type 0
 ReachTells q Working = HasEnded q → ⊥
 ReachTells q _ = IsFree q
 
@@ -191,7 +191,7 @@ not_false_of : (b : Bool) → not b ≡ true → b ≡ false
 not_false_of true h = cc
 not_false_of false h = refl
 
-reach_tells : (t : Setting) (held : Desks) (s : Serving) (c : ℕ) → IsSound t held s → ReachTells (seat s c) (reach t held s c)
+pub reach_tells : (t : Setting) (held : Desks) (s : Serving) (c : ℕ) → IsSound t (is_held held) s → ReachTells (seat s c) (reach t held s c)
 reach_tells t held s c sound =
     reach_by (seat s c) (not (nat_lt c t.processors)) ((c == t.me) || is_held held c)
     (λ e. beyond s.seats c (let f : nat_lt c t.processors ≡ false = not_false_of (nat_lt c t.processors) e in omega (arith, ltb-false c t.processors f, sound.size)))
@@ -232,7 +232,7 @@ open_write Free h = tt
 open_write (Open j t) h = refl
 open_write (Done j t y T) h = absurd (h tt)
 
-reading_ok : (t : Setting) (held : Desks) (s : Serving) (n c reg width into : ℕ) → IsSound t held s
+reading_ok : (t : Setting) (held : Desks) (s : Serving) (n c reg width into : ℕ) → IsSound t (is_held held) s
     → StepOk t.program (Doing n (op.Read c reg width into)) s (reading t held s c reg width)
 reading_ok t held s n c reg width into sound =
     desk_ok t.program (Doing n (op.Read c reg width into)) s (reach t held s c) c (read_label c reg width 0) (read_of t false blank c reg width).status
@@ -243,7 +243,7 @@ reading_ok t held s n c reg width into sound =
     (λ j x S h m. (refl, done_ran s c j x S h))
     (reach_tells t held s c sound)
 
-writing_ok : (t : Setting) (held : Desks) (s : Serving) (n c reg width : ℕ) (v : Operand) → IsSound t held s
+writing_ok : (t : Setting) (held : Desks) (s : Serving) (n c reg width : ℕ) (v : Operand) → IsSound t (is_held held) s
     → StepOk t.program (Doing n (op.Write c reg width v)) s (writing t held s c reg width (number s v))
 writing_ok t held s n c reg width v sound =
     desk_ok t.program (Doing n (op.Write c reg width v)) s (reach t held s c) c (write_label c reg width (number s v)) (write_of false blank reg width (number s v)).status
@@ -285,7 +285,7 @@ no_cause t s with_token c place h =
     let e = none_of (not (nat_lt c t.processors)) (c == t.me) (is_none place) _ _ _ _ _ h in
     (ltb-true c t.processors (not_true_of (nat_lt c t.processors) e.0), there_is place e.1)
 
-start_ok : (t : Setting) (held : Desks) (s : Serving) (marked : Bool) (n c into : ℕ) (name : List ℕ) (arg : Operand) → IsSound t held s
+start_ok : (t : Setting) (held : Desks) (s : Serving) (marked : Bool) (n c into : ℕ) (name : List ℕ) (arg : Operand) → IsSound t (is_held held) s
     → StepOk t.program (Doing n (op.Start c name arg into)) s
     (starting t held s marked false c (procedure_place t.program.procedures name) (number s arg) (awaiting_job c))
 start_ok t held s marked n c into name arg sound =
@@ -295,7 +295,7 @@ start_ok t held s marked n c into name arg sound =
     (λ e f m. let g = no_cause t s false c place e in
     record { processor = refl; there = omega (arith, g.0, sound.size); free = no_job_free (seat s c) f; job = refl; procedure = g.1; argument = refl })
 
-launch_ok : (t : Setting) (held : Desks) (s : Serving) (marked : Bool) (n c into : ℕ) (name : List ℕ) (arg : Operand) → IsSound t held s
+launch_ok : (t : Setting) (held : Desks) (s : Serving) (marked : Bool) (n c into : ℕ) (name : List ℕ) (arg : Operand) → IsSound t (is_held held) s
     → StepOk t.program (Doing n (op.Launch c name arg into)) s
     (starting t held s marked true c (procedure_place t.program.procedures name) (number s arg) (claiming_job c (say.Refuse c cause.Busy)))
 launch_ok t held s marked n c into name arg sound =
@@ -340,7 +340,7 @@ manage_ok : (program : Program) (s : Serving) (n : ℕ) (kind : HandlerType) →
 manage_ok program s zero kind = λ m. refl
 manage_ok program s (suc n) kind = λ m. refl
 
-operation_ok : (t : Setting) (held : Desks) (s : Serving) (marked : Bool) (n : ℕ) (o : OpDef) → IsSound t held s
+operation_ok : (t : Setting) (held : Desks) (s : Serving) (marked : Bool) (n : ℕ) (o : OpDef) → IsSound t (is_held held) s
     → StepOk t.program (Doing n o) s (operation_step t held s marked n o)
 operation_ok t held s marked n (op.Set into v) sound = λ found now m. (refl, refl)
 operation_ok t held s marked n (op.Read c reg width into) sound = reading_ok t held s n c reg width into sound
@@ -355,7 +355,7 @@ operation_ok t held s marked n (op.Register h kind into) sound = λ found now. r
 operation_ok t held s marked n (op.Unregister v) sound = λ found now m. (refl, refl)
 operation_ok t held s marked n (op.Manage kind) sound = λ found now. manage_ok t.program s n kind
 
-due_ok : (t : Setting) (held : Desks) (s : Serving) (marked : Bool) (d : Due) → IsSound t held s → StepOk t.program d s (due_step t held s marked d)
+due_ok : (t : Setting) (held : Desks) (s : Serving) (marked : Bool) (d : Due) → IsSound t (is_held held) s → StepOk t.program d s (due_step t held s marked d)
 due_ok t held s marked Nothing sound = λ found now. tt
 due_ok t held s marked (Saying l) sound = λ found now. refl
 due_ok t held s marked (Awaiting c) sound = λ found now j x S h. (refl, done_ended (seat (ran c x S s) c) (done_ran s c j x S h))
@@ -378,7 +378,7 @@ move_leads t course (Quiet b) now come ok = refl
 move_leads t course (Speaks l) now come ok = (permitted t.program course.place l ok, refl)
 move_leads t course (Takes c) now come ok = came_leads t course.place c (done_on (desk_of now c)) come ok
 
-pub step_leads : (t : Setting) (held : Desks) (course : Course) (found : ℕ) (now : Desks) → IsSound t held course.place.state
+pub step_leads : (t : Setting) (held : Desks) (course : Course) (found : ℕ) (now : Desks) → IsSound t (is_held held) course.place.state
     → CameFor course.place.state ((step_of t held course).on found now) now
     → Leads t.program course.place (said ((step_of t held course).on found now) now) (moved t course ((step_of t held course).on found now) now).place
 step_leads t held course found now sound come =

@@ -1,0 +1,5 @@
+use Rattle.handler_ops.proofs.Sessions.{course_prefix, course_finished, begins_sound}
+use Rattle.handler_ops.proofs.laws.courses.Goals as goal
+
+pub returns : goal.returns
+returns c = record { prefix = course_prefix; finished = course_finished; begins = begins_sound }
