@@ -5,7 +5,7 @@ use Rattle.smm_base.specs.declared.status.Status.TheVariants.{Success, InvalidPa
 use Rattle.smm_base.specs.declared.kinds.HandlerType.{HandlerType}
 use Rattle.smm_base.specs.declared.registers.Register.{Register}
 use Rattle.smm_base.specs.declared.registers.Register.TheVariants.{Rax}
-use Rattle.save_state_access.specs.Table.{register_numbered}
+use Rattle.smm_base.specs.Register.{register_numbered}
 use Rattle.cpu_table.specs.declared.handlers.OpDef.{OpDef}
 use Rattle.cpu_table.specs.declared.handlers.OpDef.TheVariants as op
 use Rattle.cpu_table.specs.declared.handlers.ProcedureDef.{ProcedureDef}
