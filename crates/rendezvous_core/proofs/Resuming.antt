@@ -2,7 +2,7 @@
 use Rattle.std.proofs.Common.{ℕ, zero, suc, ◌≡◌, ◌≢◌, arith, List, [], ◌∷◌, refl, sym, ap, subst}
 use Rattle.std.proofs.lemmas.Bool.{ne_eqb}
 use Rattle.save_state_map.specs.Images.{ImageContents}
-use Rattle.cpu_regs.specs.Registers.{Registers, loaded}
+use Rattle.cpu_regs.specs.Registers.{Registers}
 use Rattle.sync_words.specs.declared.label.Label.{Label}
 use Rattle.sync_words.specs.declared.label.Label.TheVariants as label
 use Rattle.rendezvous_core.specs.Platform.{Platform}

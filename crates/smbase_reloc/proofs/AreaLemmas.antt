@@ -1,5 +1,5 @@
 -- The places of an area that has room for its processors are disjoint.
-use Rattle.std.proofs.Common.{◌≡◌, ◌≢◌, ℕ, suc, ◌+◌, ◌-◌, ◌*◌, ◌<◌, ◌≤◌, ◌⊎◌, inl, inr, Bool, true, false, ◌||◌, ◌==◌, not, if◌then◌else◌, Option, Some, None, refl, sym, ap, subst, ◌∙◌, arith}
+use Rattle.std.proofs.Common.{◌≡◌, ◌≢◌, ℕ, suc, ◌+◌, ◌-◌, ◌*◌, ◌<◌, ◌≤◌, ◌⊎◌, inl, inr, Bool, true, false, ◌||◌, ◌==◌, not, if◌then◌else◌, Option, Some, None, refl, ◌∙◌, arith}
 use Rattle.std.proofs.Math.Nat.{mul-le-mul_right, add-mul}
 use Rattle.std.proofs.lemmas.Bool.{or_cases, eqb-true, cases_lt}
 use Rattle.std.specs.Prelude.{nat_lt}
@@ -7,7 +7,7 @@ use Rattle.cpu_table.specs.Layout.{is_tile, areas_end, layout_refusal}
 use Rattle.cpu_table.specs.declared.layout.LayoutError.{LayoutError}
 use Rattle.cpu_table.specs.declared.layout.LayoutError.TheVariants.{BadTile, CodeTooLong, Low, PastEnd}
 use Rattle.cpu_table.specs.declared.setup.Smram.{Smram}
-use Rattle.smbase_reloc.specs.Areas.{Interval, AreDisjoint, Use, EntryCode, SaveState, smbase_of, place_of, default_place, PlacesAreDisjoint, PlacesAvoidDefault, PlacesAreWithin}
+use Rattle.smbase_reloc.specs.Areas.{Interval, AreDisjoint, Use, EntryCode, SaveState, place_of, PlacesAreDisjoint, PlacesAvoidDefault, PlacesAreWithin}
 
 -- what an area has that is not refused: so many tiles are 8000H
 pub record IsAccepted (area : Smram) (n : ℕ) : Type 0 where

@@ -1,15 +1,13 @@
 -- The first processor that may not be relocated, and why.
 use Rattle.std.proofs.Common.{◌≡◌, ℕ, zero, suc, ◌+◌, ◌<◌, ◌≤◌, Bool, true, false, ◌&&◌, not, cond, if◌then◌else◌, List, [], ◌∷◌, length, get_or, Option, Some, None, refl, sym, ap, subst, ◌∙◌, arith}
-use Rattle.std.specs.Prelude.{position, nat_lt, slice_get, option_map, IsSomeAnd, IfSome}
+use Rattle.std.specs.Prelude.{position, nat_lt, slice_get, option_map, IsSomeAnd}
 use Rattle.std.specs.List.{position_or_len, prefix_len}
-use Rattle.std.proofs.lemmas.Option.{slice_get-get_or, slice_get-map}
+use Rattle.std.proofs.lemmas.Option.{slice_get-get_or}
 use Rattle.std.proofs.lemmas.List.Quantifiers.{position-Some}
-use Rattle.cpu_table.specs.declared.setup.Smram.{Smram}
 use Rattle.cpu_regs.specs.Registers.{Registers}
 use Rattle.smbase_reloc.specs.declared.error.RelocError.{RelocError}
 use Rattle.smbase_reloc.specs.declared.error.RelocError.TheVariants.{NoRelocation, NotDefault}
-use Rattle.smbase_reloc.specs.Areas.{smbase_of}
-use Rattle.smbase_reloc.specs.Relocation.{can_relocate, is_at_default, is_fixed, AreRelocatable, refusal_of, refusal_at, relocation_refusal, with_smbase, relocated, CanRelocate, IsFirstFixed, IsCause}
+use Rattle.smbase_reloc.specs.Relocation.{can_relocate, is_at_default, is_fixed, AreRelocatable, refusal_of, refusal_at, relocation_refusal, IsFirstFixed, IsCause}
 
 abbrev Holds : List Registers → ℕ → (Registers → Type 0) → Type 0
 Holds all i p = IsSomeAnd (slice_get all i) p

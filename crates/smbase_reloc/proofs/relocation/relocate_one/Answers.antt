@@ -1,6 +1,5 @@
 -- What is loaded is what was saved, with another SMBASE.
 use Rattle.std.proofs.Common.{◌≡◌, sym, ap, ◌∙◌}
-use Rattle.smm_base.specs.declared.kinds.MapKind.{MapKind}
 use Rattle.save_state_map.specs.Images.{ImageContents}
 use Rattle.cpu_regs.specs.Registers.{Registers, loaded}
 use Rattle.cpu_regs.specs.Entering.{saved}
