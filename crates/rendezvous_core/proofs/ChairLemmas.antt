@@ -1,6 +1,6 @@
 -- The row behind the next step, by how many steps are left.
 use Rattle.std.proofs.Common.{◌≡◌, arith, true, false, List, [], ◌∷◌, length, nat_lt, refl}
-use Rattle.sync_words.specs.declared.row.Row.TheVariants.{LeaveInside, Serve}
+use Rattle.rendezvous_core.specs.declared.row.Row.TheVariants.{LeaveInside, Serve}
 use Rattle.rendezvous_core.specs.declared.serving.ServingStep.{ServingStep}
 use Rattle.rendezvous_core.specs.Protocol.{row_by_rest}
 

@@ -3,8 +3,8 @@ use Rattle.std.proofs.Common.{ℕ, suc, ◌+◌, ◌-◌, ◌≡◌, ◌≢◌, 
 use Rattle.std.proofs.lemmas.Bool.{cases_eq, cases_lt, eq-eqb, ne_eqb, le-leb, lt-leb, le-ltb}
 use Rattle.sync_words.specs.declared.label.Label.{Label}
 use Rattle.sync_words.specs.declared.label.Label.TheVariants as label
-use Rattle.sync_words.specs.declared.row.Row.{Row}
-use Rattle.sync_words.specs.declared.row.Row.TheVariants.{AwaitSmi, SwitchOff, LookAtSource, LookAtInside, CountIn, ClaimBsp, MarkInside, TakeSource, LookAtExcept, GatherFirst, MarkInsync, LockCounter, Serve, LeaveInside, GiveBsp, LeaveInsync, UnlockCounter, AwaitSessionEnd, ClearSignal}
+use Rattle.rendezvous_core.specs.declared.row.Row.{Row}
+use Rattle.rendezvous_core.specs.declared.row.Row.TheVariants.{AwaitSmi, SwitchOff, LookAtSource, LookAtInside, CountIn, ClaimBsp, MarkInside, TakeSource, LookAtExcept, GatherFirst, MarkInsync, LockCounter, Serve, LeaveInside, GiveBsp, LeaveInsync, UnlockCounter, AwaitSessionEnd, ClearSignal}
 use Rattle.smm_base.specs.declared.registers.Register.{Register}
 use Rattle.smm_base.specs.declared.status.Status.{Status}
 use Rattle.smm_base.specs.declared.status.Status.TheVariants.{InvalidParameter}

@@ -6,8 +6,8 @@ use Rattle.sync_words.specs.declared.access.Applied.TheVariants.{Changed, Same, 
 use Rattle.sync_words.specs.Access.{applied}
 use Rattle.sync_words.specs.declared.event.Hand.{Hand}
 use Rattle.sync_words.specs.declared.event.Hand.TheVariants.{Nothing, Give, Take}
-use Rattle.sync_words.specs.declared.row.Row.{Row}
-use Rattle.sync_words.specs.declared.row.Row.TheVariants.{AwaitSmi, SwitchOff, ClearSignal, Serve, AnnounceBlocked, AnnounceWave, RaiseWave, WatchSource, AwaitServed, RaiseOff}
+use Rattle.rendezvous_core.specs.declared.row.Row.{Row}
+use Rattle.rendezvous_core.specs.declared.row.Row.TheVariants.{AwaitSmi, SwitchOff, ClearSignal, Serve, AnnounceBlocked, AnnounceWave, RaiseWave, WatchSource, AwaitServed, RaiseOff}
 use Rattle.rendezvous_core.specs.Platform.{Platform, cause_of}
 use Rattle.rendezvous_core.specs.Protocol.{Chair, Cpu, Seat, row_after, word_of, access_of, hand_of, seat_after, cpu_after, entered_cpu, served_cpu, resumed_cpu}
 use Rattle.rendezvous_core.specs.SeatInside.{IsRow, IsRowOf, IsChipsetRow}

@@ -3,8 +3,8 @@
 use Rattle.std.proofs.Common.{ℕ, ◌+◌, ◌*◌, ◌≡◌, ◌<◌, ◌≤◌, Bool, true, false, List, [], ◌∷◌, ◌++◌, length, Option, Some, None}
 use Rattle.sync_words.specs.declared.access.TheConstants.{LOCKED}
 use Rattle.sync_words.specs.declared.label.Label.{Label}
-use Rattle.sync_words.specs.declared.row.Row.{Row}
-use Rattle.sync_words.specs.declared.row.Row.TheVariants.{AwaitSmi, SwitchOff, LookAtSource, LookAtInside, CountIn, ClaimBsp, AwaitBsp, MarkInside, TakeSource, LookAtExcept, GatherFirst, GatherSecond, MarkInsync, LockCounter, Serve, LeaveInside, GiveBsp, LeaveInsync, UnlockCounter, AwaitSessionEnd, ClearSignal, AnnounceBlocked, AnnounceWave, RaiseWave, WatchSource, AwaitServed, RaiseOff}
+use Rattle.rendezvous_core.specs.declared.row.Row.{Row}
+use Rattle.rendezvous_core.specs.declared.row.Row.TheVariants.{AwaitSmi, SwitchOff, LookAtSource, LookAtInside, CountIn, ClaimBsp, AwaitBsp, MarkInside, TakeSource, LookAtExcept, GatherFirst, GatherSecond, MarkInsync, LockCounter, Serve, LeaveInside, GiveBsp, LeaveInsync, UnlockCounter, AwaitSessionEnd, ClearSignal, AnnounceBlocked, AnnounceWave, RaiseWave, WatchSource, AwaitServed, RaiseOff}
 use Rattle.rendezvous_core.specs.declared.phase.Phase.{Phase}
 use Rattle.rendezvous_core.specs.declared.phase.Phase.TheVariants.{Out, In, Counted, Gone, Off}
 use Rattle.rendezvous_core.specs.declared.stepped.Stepped.{Stepped}

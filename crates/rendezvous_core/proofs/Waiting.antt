@@ -7,7 +7,7 @@ use Rattle.sync_words.specs.Access.{applied}
 use Rattle.sync_words.specs.declared.access.Applied.{Applied}
 use Rattle.sync_words.specs.declared.access.Applied.TheVariants.{Changed, Same, NotReady}
 use Rattle.sync_words.specs.declared.event.Event.{Event}
-use Rattle.sync_words.specs.declared.row.Row.{Row}
+use Rattle.rendezvous_core.specs.declared.row.Row.{Row}
 use Rattle.rendezvous_core.specs.declared.stepped.Stepped.{Stepped}
 use Rattle.rendezvous_core.specs.declared.stepped.Stepped.TheVariants as stepped
 use Rattle.rendezvous_core.specs.Platform.{Platform}

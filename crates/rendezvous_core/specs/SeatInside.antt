@@ -1,8 +1,8 @@
 -- What a seat keeps in numbers, on each platform that is built.
 use Rattle.std.specs.Prelude.{ℕ, ◌<◌, ◌≤◌, Option, Some, None}
 use Rattle.sync_words.specs.declared.access.TheConstants.{LOCKED}
-use Rattle.sync_words.specs.declared.row.Row.{Row}
-use Rattle.sync_words.specs.declared.row.Row.TheVariants.{AwaitSmi, SwitchOff, ClearSignal, GatherFirst, GatherSecond, AnnounceBlocked, AnnounceWave, RaiseWave, WatchSource, AwaitServed, RaiseOff}
+use Rattle.rendezvous_core.specs.declared.row.Row.{Row}
+use Rattle.rendezvous_core.specs.declared.row.Row.TheVariants.{AwaitSmi, SwitchOff, ClearSignal, GatherFirst, GatherSecond, AnnounceBlocked, AnnounceWave, RaiseWave, WatchSource, AwaitServed, RaiseOff}
 use Rattle.rendezvous_core.specs.Stand.{Stand}
 use Rattle.rendezvous_core.specs.declared.seat.Seat.TheInside.{Inside}
 

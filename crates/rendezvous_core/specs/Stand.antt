@@ -1,6 +1,6 @@
 -- Where an actor stands, as the code keeps it: the chair is told by how far it has come.
 use Rattle.std.specs.Prelude.{ℕ, Option}
-use Rattle.sync_words.specs.declared.row.Row.{Row}
+use Rattle.rendezvous_core.specs.declared.row.Row.{Row}
 use Rattle.rendezvous_core.specs.declared.chair.Chair.{Chair as Place}
 use Rattle.rendezvous_core.specs.ChairInside.{held_in}
 use Rattle.rendezvous_core.specs.Platform.{Platform}

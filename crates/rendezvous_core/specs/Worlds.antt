@@ -15,8 +15,8 @@ use Rattle.sync_words.specs.declared.event.Hand.{Hand}
 use Rattle.sync_words.specs.declared.event.Hand.TheVariants.{Nothing, Give, Take}
 use Rattle.sync_words.specs.declared.label.Label.{Label}
 use Rattle.sync_words.specs.declared.label.Label.TheVariants as label
-use Rattle.sync_words.specs.declared.row.Row.{Row}
-use Rattle.sync_words.specs.declared.row.Row.TheVariants.{AwaitSmi, AnnounceBlocked}
+use Rattle.rendezvous_core.specs.declared.row.Row.{Row}
+use Rattle.rendezvous_core.specs.declared.row.Row.TheVariants.{AwaitSmi, AnnounceBlocked}
 use Rattle.rendezvous_core.specs.declared.stepped.Stepped.{Stepped}
 use Rattle.rendezvous_core.specs.declared.stepped.Stepped.TheVariants as stepped
 use Rattle.rendezvous_core.specs.Platform.{Platform}

@@ -4,8 +4,9 @@ ghost use Rattle.rendezvous_core.specs.Protocol.{one_taken, row_by_rest};
 ghost use Rattle.rendezvous_core.specs.Serving.{later_steps};
 
 use crate::course::Course;
+use crate::row::Row;
 use crate::serving::ServingStep;
-use sync_words::{Label, Row};
+use sync_words::Label;
 
 /// The chair of the boot processor: how far the serving has come. What is left to do follows from
 /// this on a course.

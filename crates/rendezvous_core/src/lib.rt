@@ -9,6 +9,7 @@ mod error;
 mod law;
 mod listing;
 mod phase;
+mod row;
 mod schedule;
 mod seat;
 mod serving;

@@ -11,11 +11,12 @@ ghost use Rattle.rendezvous_core.specs.WordMap.{IsWordOf};
 use crate::chair::Chair;
 use crate::course::Course;
 use crate::cpu::Cpu;
+use crate::row::Row;
 use crate::serving::{Operation, ServingStep};
 use save_state_map::Image;
 use smm_base::Cause;
 use std::marker::Model;
-use sync_words::{Access, After, Hand, LOCKED, Label, Row, Status, WordId};
+use sync_words::{Access, After, Hand, LOCKED, Label, Status, WordId};
 
 /// The processors of each platform that is built; the chipset has this number.
 pub const PROCESSORS: u16 = 1;

@@ -7,10 +7,11 @@ ghost use Rattle.rendezvous_core.specs.Worlds.{turn, lying_after, holding_after}
 
 use crate::chair::Chair;
 use crate::course::Course;
+use crate::row::Row;
 use crate::seat::{self, PROCESSORS, Seat};
 use crate::stepped::Stepped;
 use crate::words::Words;
-use sync_words::{Applied, Event, Hand, Row, apply};
+use sync_words::{Applied, Event, Hand, apply};
 
 /// What changes hands at a row goes between the word `bsp` and the seat.
 fn hand_over(course: &Course, row: Row, lying: &mut Option<Chair>, seat: &mut Seat)

@@ -8,6 +8,7 @@ use crate::chair::Chair;
 use crate::course::Course;
 use crate::cpu::Cpu;
 use crate::error::{WorldError, not_relocated};
+use crate::row::Row;
 use crate::seat::{PROCESSORS, Seat};
 use crate::starting::{image_fault, only_image, start_registers};
 use crate::stepped::Stepped;
@@ -19,7 +20,7 @@ use save_state_map::Image;
 use smm_base::NoMemory;
 use std::alloc::Global;
 use std::marker::Model;
-use sync_words::{Event, Row};
+use sync_words::Event;
 
 /// A replay as far as it has come: the world, and the events that led to it.
 #[derive(Drop)]

@@ -76,6 +76,21 @@ pub enum Applied {
     NotReady { found: u32 },
 }
 
+impl Applied {
+    ghost use Rattle.sync_words.specs.Steps.{found_of};
+
+    /// The number that the access found.
+    pub fn found(self) -> u32
+        ensures { result ≡ found_of self }
+    {
+        match self {
+            Applied::Changed { found, .. } | Applied::Same { found } | Applied::NotReady { found } => {
+                found
+            }
+        }
+    }
+}
+
 /// What `access` does to a word with this value. Constant time, no memory.
 pub fn apply(value: u32, access: Access) -> Applied
     requires value_fits { value ≤ LOCKED }
