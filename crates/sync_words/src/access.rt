@@ -84,9 +84,9 @@ impl Applied {
         ensures { result ≡ found_of self }
     {
         match self {
-            Applied::Changed { found, .. } | Applied::Same { found } | Applied::NotReady { found } => {
-                found
-            }
+            Applied::Changed { found, .. }
+            | Applied::Same { found }
+            | Applied::NotReady { found } => { found }
         }
     }
 }
