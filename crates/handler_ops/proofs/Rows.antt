@@ -367,9 +367,10 @@ came_leads : (t : Setting) (p : Place) (c : ℕ) (o : Option JobDone) → HasCom
     → Leads t.program p (with_run c o) (after_all t.program p (with_run c o))
 came_leads t p c None come ok = absurd come
 came_leads t p c (Some d) come ok =
-    let q = ok d.number d.result d.status come in
-    ((more t.program p.kinds p.walks p.begun p.state.registrations p.state.left (permits_some t.program (due t.program p) (ran c d.result d.status p.state) (say.Collect c) q), come),
-    (permitted t.program (record p { state = ran c d.result d.status p.state }) (say.Collect c) q, refl))
+    let q = ok d.number d.result d.status come in (
+      (more t.program p.kinds p.walks p.begun p.state.registrations p.state.left (permits_some t.program (due t.program p) (ran c d.result d.status p.state) (say.Collect c) q), come),
+      (permitted t.program (record p { state = ran c d.result d.status p.state }) (say.Collect c) q, refl),
+    )
 
 move_leads : (t : Setting) (course : Course) (m : Move) (now : Desks) → CameFor course.place.state m now
     → MoveOk t.program (due t.program course.place) course.place.state m
@@ -435,6 +436,7 @@ nothing_need t held s marked (Doing n o) g = absurd (g tt)
 
 pub finished : (t : Setting) (held : Desks) (course : Course) → ((step_of t held course).need ≡ need.Finished) ↔ IsOver course.place
 finished t held course =
-    let p = course.place in
-    (λ h. λ m. due_need t held p.state course.marked (due t.program p) (some_due t.program p.kinds p.walks p.begun p.state.registrations p.state.left m) h,
-    λ h. nothing_need t held p.state course.marked (due t.program p) (λ g. h (more t.program p.kinds p.walks p.begun p.state.registrations p.state.left g)))
+    let p = course.place in (
+      λ h. λ m. due_need t held p.state course.marked (due t.program p) (some_due t.program p.kinds p.walks p.begun p.state.registrations p.state.left m) h,
+      λ h. nothing_need t held p.state course.marked (due t.program p) (λ g. h (more t.program p.kinds p.walks p.begun p.state.registrations p.state.left g)),
+    )
