@@ -1,7 +1,7 @@
 use Rattle.std.proofs.Common.{◌≡◌, ℕ, List, take, replicate, ◌∙◌, ap}
 use Rattle.std.proofs.lemmas.List.{take-replicate}
 use Rattle.save_state_access.specs.Reading.{read_answer}
-use Rattle.handler_ops.proofs.Reads.{read_shows}
+use Rattle.handler_ops.proofs.FirstBytes.{read_shows}
 use Rattle.handler_ops.proofs.procedure.read_number.Goals as goal
 
 pub returns-clause-number : goal.returns-clause-number
