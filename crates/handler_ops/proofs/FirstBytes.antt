@@ -1,6 +1,6 @@
 -- The number that is read where the bytes behind those that were read are 0.
-use Rattle.std.proofs.Common.{◌≡◌, ◌≤◌, ℕ, zero, suc, ◌+◌, ◌*◌, ◌-◌, List, [], ◌∷◌, ◌++◌, take, drop, replicate, refl, sym, ap, ◌∙◌}
-use Rattle.std.proofs.lemmas.List.{drop-replicate, take-replicate}
+use Rattle.std.proofs.Common.{◌≡◌, ℕ, zero, suc, ◌-◌, List, [], ◌∷◌, ◌++◌, drop, replicate, refl, ap, ◌∙◌}
+use Rattle.std.proofs.lemmas.List.{drop-replicate}
 use Rattle.std.specs.Prelude.{slice_index, Bool}
 use Rattle.byteorder.specs.Endian.{little_from, little_number}
 use Rattle.smm_base.specs.declared.status.Status.{Status}

@@ -1,4 +1,4 @@
-use Rattle.std.proofs.Common.{◌≡◌, ℕ, List, take, replicate, ◌∙◌, ap}
+use Rattle.std.proofs.Common.{ℕ, List, take, replicate, ◌∙◌, ap}
 use Rattle.std.proofs.lemmas.List.{take-replicate}
 use Rattle.save_state_access.specs.Reading.{read_answer}
 use Rattle.handler_ops.proofs.FirstBytes.{read_shows}
