@@ -1,6 +1,5 @@
 -- From every place the rest can be said.
-use Rattle.std.proofs.Common.{◌≡◌, ◌+◌, ℕ, zero, suc, Bool, true, false, ◌&&◌, cond, List, [], ◌∷◌, Option, Some, None, Result, Ok, Err, refl, sym, ap, ◌∙◌, subst}
-use Rattle.std.proofs.lemmas.Bool.{eqb-true, eq-eqb}
+use Rattle.std.proofs.Common.{◌≡◌, ◌+◌, ℕ, zero, suc, Bool, true, false, ◌&&◌, cond, List, [], ◌∷◌, Option, Some, None, Result, Ok, Err, refl, ap, ◌∙◌, subst}
 use Rattle.std.specs.Prelude.{slice_index_or, slice_set, option_map, ◌==◌}
 use Rattle.std.specs.List.{find}
 use Rattle.smm_base.specs.declared.kinds.HandlerType.{HandlerType}
@@ -18,7 +17,7 @@ use Rattle.handler_registry.specs.Registrations.{is_live, is_full}
 use Rattle.smram_pool.specs.declared.error.PoolError.{PoolError}
 use Rattle.smram_pool.specs.State.{allocated, freed}
 use Rattle.smi_manage.specs.Answers.{stops}
-use Rattle.handler_ops.specs.Serving.{Serving, Seat, Free, Open, Done, Token, number, seat, ran, run_at, collected, returned, with_token, owes_token, owner, token_of, state_of, IsDone, HasEnded}
+use Rattle.handler_ops.specs.Serving.{Serving, Seat, Free, Open, Done, Token, number, seat, ran, run_at, collected, returned, with_token, owes_token, owner, IsDone, HasEnded}
 use Rattle.handler_ops.specs.Operations.{after, Collects, register_of, pool_status, free_status, unregister_status}
 use Rattle.handler_ops.specs.Forms.{Event, Own, Ran, Program, operations_of, status_of, Rest, Part, Ends, Exactly, Returning, Operating, InUnit, Operation, Operations, Calling, Calls, Answering, Walk, Entries, by_left, by_turn, by_test, turn_of, count_up}
 use Rattle.handler_ops.specs.Places.{Call, OpenWalk, Begun, First, Started, Awaited, Place, one_less, levels_left, AnsweringLater, OpenWalkRest, OpenWalksRest, StillToSay}

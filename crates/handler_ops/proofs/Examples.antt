@@ -1,16 +1,12 @@
 -- Whole lists by computation.
-use Rattle.std.proofs.Common.{ℕ, List, [], ◌∷◌, Option, Some, None, refl, arith}
-use Rattle.smm_base.specs.declared.status.Status.{Status}
-use Rattle.smm_base.specs.declared.status.Status.TheVariants.{Success, OutOfResources, NotFound, InvalidParameter, NotReady}
-use Rattle.smm_base.specs.declared.kinds.HandlerType.{HandlerType}
+use Rattle.std.proofs.Common.{ℕ, List, [], ◌∷◌, Some, None, refl, arith}
+use Rattle.smm_base.specs.declared.status.Status.TheVariants.{Success, NotFound, InvalidParameter}
 use Rattle.smm_base.specs.declared.kinds.HandlerType.TheVariants.{Root}
 use Rattle.cpu_table.specs.declared.handlers.OpDef.{OpDef}
 use Rattle.cpu_table.specs.declared.handlers.OpDef.TheVariants as op
-use Rattle.cpu_table.specs.declared.handlers.HandlerDef.{HandlerDef}
 use Rattle.cpu_table.specs.declared.handlers.Act.TheVariants.{Get}
 use Rattle.cpu_table.specs.declared.handlers.Operand.TheVariants.{Number, Variable}
 use Rattle.sync_words.specs.declared.label.StartRefusal.TheVariants.{Busy}
-use Rattle.smm_base.specs.declared.registers.Register.TheVariants.{Rax}
 use Rattle.sync_words.specs.declared.label.Label.TheVariants as say
 use Rattle.smram_pool.specs.State.{fresh}
 use Rattle.handler_ops.specs.Serving.{Serving, Free}

@@ -6,4 +6,5 @@ pub mod Judging
 pub mod Seats
 pub mod Rows
 pub mod Sessions
+pub mod FirstBytes
 pub mod Examples

@@ -1,5 +1,5 @@
 -- What a step keeps: a serial number that was given before it, and is live after it, was live before it.
-use Rattle.std.proofs.Common.{◌≡◌, ◌+◌, ℕ, zero, suc, Bool, true, false, not, cond, ◌||◌, List, [], ◌∷◌, ◌++◌, Option, Some, None, refl, subst, nat_eq, arith}
+use Rattle.std.proofs.Common.{◌≡◌, ◌+◌, ℕ, zero, suc, Bool, true, false, not, cond, ◌||◌, List, [], ◌∷◌, ◌++◌, Option, Some, None, refl, subst, arith}
 use Rattle.std.specs.List.{filter, list_any}
 use Rattle.std.proofs.lemmas.Bool.{ne_eqb}
 use Rattle.smm_base.specs.declared.kinds.HandlerType.{HandlerType}
@@ -14,7 +14,7 @@ use Rattle.handler_registry.specs.declared.registration.Registration.{Registrati
 use Rattle.handler_registry.specs.Registrations.{has_serial, is_full}
 use Rattle.smi_manage.specs.declared.running.Running.{Running}
 use Rattle.smram_pool.specs.State.{allocated}
-use Rattle.handler_ops.specs.Serving.{Serving, Seat, Free, Open, Done, seat, put_on, collected, put_result, returned, dropped, given_to}
+use Rattle.handler_ops.specs.Serving.{Serving, Seat, Free, Open, Done, seat, put_on, collected, put_result, returned, dropped}
 use Rattle.handler_ops.specs.Operations.{Fits, after, Collects, RegisterShows, register_on, drop_on}
 use Rattle.handler_ops.specs.Forms.{Event, Own, Ran, Program, by_left, by_turn, by_collect, turn_of}
 use Rattle.handler_ops.specs.Places.{Call, OpenWalk, Begun, First, Started, Awaited, Place, one_less, levels_left, at_left, at_turn, at_collect, MayOperate, after_operating, with_walk, MayDo, after_doing, MayTurn, after_turn, MayInCall, after_in_call, MayInWalk, after_in_walk, MayInWalks, after_in_walks, MayBegun, after_begun, Accepts, next}

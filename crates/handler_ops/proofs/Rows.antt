@@ -1,32 +1,30 @@
 -- What a course says is what its place may say.
-use Rattle.std.proofs.Common.{◌≡◌, ◌<◌, ◌≤◌, ◌↔◌, ◌⊎◌, inl, inr, ℕ, zero, suc, ◌+◌, Bool, true, false, not, ◌&&◌, ◌||◌, List, [], ◌∷◌, length, Option, Some, None, Result, Ok, Err, refl, sym, ap, ◌∙◌, subst, arith, if◌then◌else◌}
+use Rattle.std.proofs.Common.{◌≡◌, ◌<◌, ◌≤◌, ◌↔◌, inl, inr, ℕ, zero, suc, Bool, true, false, not, ◌||◌, List, [], ◌∷◌, length, Option, Some, None, Result, Ok, Err, refl, sym, ap, ◌∙◌, subst, arith, if◌then◌else◌}
 use Rattle.std.proofs.lemmas.Bool.{eqb-true, ltb-true, ltb-false, or_cases}
-use Rattle.std.specs.Prelude.{slice_index_or, ◌==◌, nat_lt, nat_le, is_none, unwrap_or}
+use Rattle.std.specs.Prelude.{slice_index_or, ◌==◌, nat_lt, is_none, unwrap_or}
 use Rattle.std.specs.List.{find}
 use Rattle.smm_base.specs.declared.kinds.HandlerType.{HandlerType}
 use Rattle.smm_base.specs.declared.status.Status.{Status}
-use Rattle.smm_base.specs.declared.status.Status.TheVariants.{Success, InvalidParameter, NotReady, OutOfResources}
+use Rattle.smm_base.specs.declared.status.Status.TheVariants.{InvalidParameter, NotReady}
 use Rattle.cpu_table.specs.declared.handlers.Operand.{Operand}
 use Rattle.cpu_table.specs.declared.handlers.OpDef.{OpDef}
 use Rattle.cpu_table.specs.declared.handlers.OpDef.TheVariants as op
-use Rattle.cpu_table.specs.declared.handlers.ProcedureDef.{ProcedureDef}
 use Rattle.sync_words.specs.declared.label.StartRefusal.{StartRefusal}
 use Rattle.sync_words.specs.declared.label.StartRefusal.TheVariants as cause
 use Rattle.sync_words.specs.declared.label.Label.{Label}
 use Rattle.sync_words.specs.declared.label.Label.TheVariants as say
 use Rattle.handler_registry.specs.declared.registration.Registration.{Registration}
-use Rattle.handler_registry.specs.Registrations.{Registrations, is_live, is_full}
+use Rattle.handler_registry.specs.Registrations.{Registrations, is_full}
 use Rattle.smi_manage.specs.declared.running.Running.{Running}
 use Rattle.smram_pool.specs.declared.error.PoolError.{PoolError}
-use Rattle.smram_pool.specs.State.{allocated, freed}
-use Rattle.handler_ops.specs.declared.need.Need.{Need}
+use Rattle.smram_pool.specs.State.{allocated}
 use Rattle.handler_ops.specs.declared.need.Need.TheVariants as need
-use Rattle.handler_ops.specs.Serving.{Serving, Seat, Free, Open, Done, TokenState, NotOut, Uncollected, Collected, number, seat, ran, owner, token_of, state_of, HasOpen, IsFree, IsDone, HasEnded}
-use Rattle.handler_ops.specs.Operations.{register_of, procedure_place, pool_status, free_status, unregister_status, ReadShows, WriteShows}
-use Rattle.handler_ops.specs.Forms.{Event, Own, Ran, Program, by_left, by_turn, turn_of}
-use Rattle.handler_ops.specs.Places.{Call, OpenWalk, Begun, First, Started, Awaited, Place, levels_left, MayDo, MayTurn, MayInCall, MayInWalk, MayInWalks, MayBegun, HasMore, Accepts, next, IsOver}
+use Rattle.handler_ops.specs.Serving.{Serving, Seat, Free, Open, Done, TokenState, NotOut, Uncollected, Collected, number, seat, ran, token_of, state_of, HasOpen, IsFree, IsDone, HasEnded}
+use Rattle.handler_ops.specs.Operations.{procedure_place, ReadShows, WriteShows}
+use Rattle.handler_ops.specs.Forms.{Own, Program, by_left, by_turn, turn_of}
+use Rattle.handler_ops.specs.Places.{Call, OpenWalk, Begun, First, Started, Awaited, Place, levels_left, MayDo, MayTurn, MayInCall, MayInWalk, MayInWalks, MayBegun, HasMore, Accepts, IsOver}
 use Rattle.handler_ops.specs.Stands.{Leads}
-use Rattle.handler_ops.specs.Course.{Setting, Course, Desks, Move, Quiet, Speaks, Takes, Step, Reach, Outside, AtHand, Working, Elsewhere, Due, Nothing, Saying, Awaiting, Doing, JobDone, is_held, desk_of, image_in, looking, claiming_desk, claiming_job, awaiting_job, has_job, reach, by_desk, read_of, shown_value, write_of, read_label, write_label, blank, reading, writing, first_cause, by_start_rule, starting, checking, waiting, alloc_label, register_label, open_label, operation_step, due_left, due_turn, due_turns, due_in_call, due_in_walk, due_in_walks, due_begun, due, due_step, step_of, done_on, with_run, said, after_all, moved, is_marked}
+use Rattle.handler_ops.specs.Course.{Setting, Course, Desks, Move, Quiet, Speaks, Takes, Step, Reach, Outside, AtHand, Working, Elsewhere, Due, Nothing, Saying, Awaiting, Doing, JobDone, is_held, desk_of, image_in, claiming_job, awaiting_job, has_job, reach, by_desk, read_of, shown_value, write_of, read_label, write_label, blank, reading, writing, first_cause, by_start_rule, starting, checking, waiting, alloc_label, register_label, open_label, operation_step, due_left, due_turn, due_turns, due_in_call, due_in_walk, due_in_walks, due_begun, due, due_step, step_of, done_on, with_run, said, after_all, moved}
 use Rattle.handler_ops.specs.Conditions.{IsSound, HasCome, CameFor}
 use Rattle.handler_ops.proofs.Completion.{seat_ran, owner_ran}
 

@@ -8,8 +8,8 @@ use Rattle.sync_words.specs.declared.label.Label.TheVariants as say
 use Rattle.handler_registry.specs.declared.registration.Registration.{Registration}
 use Rattle.smi_manage.specs.declared.running.Running.{Running}
 use Rattle.handler_ops.specs.Serving.{Serving, seat, ran, HasOpen}
-use Rattle.handler_ops.specs.Forms.{Event, Own, Ran, Program, status_of, Rest, Part, Exactly, Operation, Operations, Calls, Walk, Entries, by_left, by_turn, turn_of}
-use Rattle.handler_ops.specs.Places.{Call, OpenWalk, Begun, First, Started, Awaited, Place, one_less, levels_left, AnsweringLater, OpenWalkRest, OpenWalksRest, StillToSay, HasMore, Accepts, next, IsOver}
+use Rattle.handler_ops.specs.Forms.{Event, Ran, Program, status_of, Rest, Part, Exactly, Operation, Operations, Calls, Walk, Entries, by_left, by_turn, turn_of}
+use Rattle.handler_ops.specs.Places.{Call, OpenWalk, Begun, First, Started, Awaited, Place, one_less, levels_left, AnsweringLater, OpenWalkRest, OpenWalksRest, StillToSay, HasMore, Accepts, next}
 
 same : {A : Type 0} → A ↔ A
 same = (λ x. x, λ x. x)

@@ -1,9 +1,8 @@
 -- An own label: what is still to be said, headed by the label, is that the label may be said, and what is still to be
 -- said from the place after it.
-use Rattle.std.proofs.Common.{◌≡◌, ◌↔◌, ℕ, zero, suc, Bool, true, false, List, [], ◌∷◌, Option, Some, None, ◌||◌, ◌∙◌, subst, refl, if◌then◌else◌}
+use Rattle.std.proofs.Common.{◌≡◌, ◌↔◌, ℕ, zero, suc, Bool, true, false, List, [], ◌∷◌, Option, Some, None, ◌||◌, ◌∙◌, subst, refl}
 use Rattle.std.specs.List.{list_any}
 use Rattle.smm_base.specs.declared.kinds.HandlerType.{HandlerType}
-use Rattle.smm_base.specs.declared.kinds.HandlerType.TheVariants.{Root, Typed}
 use Rattle.smm_base.specs.declared.status.Status.{Status}
 use Rattle.cpu_table.specs.declared.handlers.OpDef.{OpDef}
 use Rattle.cpu_table.specs.declared.handlers.OpDef.TheVariants as op
@@ -14,9 +13,9 @@ use Rattle.handler_registry.specs.declared.registration.Registration.{Registrati
 use Rattle.smi_manage.specs.declared.running.Running.{Running}
 use Rattle.smi_manage.specs.Answers.{stops, settles, last_or, answer_of, fresh, plus, run, ended_with}
 use Rattle.handler_ops.specs.Serving.{Serving, collected}
-use Rattle.handler_ops.specs.Operations.{Fits, after, Collects}
-use Rattle.handler_ops.specs.Forms.{Event, Own, Program, status_of, Rest, Part, Exactly, Returning, AfterLabel, Operating, Operation, Operations, Calls, Answering, Walk, Entries, by_start, by_left, by_turn, by_test, by_collect, turn_of, count_up}
-use Rattle.handler_ops.specs.Places.{Call, OpenWalk, Begun, First, Started, Awaited, Place, one_less, levels_left, AnsweringLater, AfterReturn, OpenWalkRest, OpenWalksRest, BegunRest, StillToSay, at_left, at_turn, at_collect, place_at, place_begun, MayOpen, with_walk, awaits_after, begun_by, MayOperate, after_operating, MayDo, after_doing, MayTurn, after_turn, MayInCall, after_in_call, turns_left, MayInWalk, after_in_walk, MayInWalks, after_in_walks, MayBegun, after_begun, Accepts, next}
+use Rattle.handler_ops.specs.Operations.{after, Collects}
+use Rattle.handler_ops.specs.Forms.{Event, Own, Program, status_of, Rest, Part, Exactly, Returning, AfterLabel, Operating, Operation, Operations, Calls, Answering, Walk, by_start, by_left, by_turn, by_test, by_collect, turn_of, count_up}
+use Rattle.handler_ops.specs.Places.{Call, OpenWalk, Begun, First, Started, Awaited, Place, one_less, levels_left, AnsweringLater, AfterReturn, OpenWalkRest, OpenWalksRest, BegunRest, StillToSay, at_left, at_turn, at_collect, place_begun, MayOpen, with_walk, awaits_after, begun_by, MayOperate, after_operating, MayDo, after_doing, MayTurn, after_turn, MayInCall, after_in_call, turns_left, MayInWalk, after_in_walk, MayInWalks, after_in_walks, MayBegun, after_begun, Accepts, next}
 
 same : {A : Type 0} → A ↔ A
 same = (λ x. x, λ x. x)

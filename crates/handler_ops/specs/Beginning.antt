@@ -1,5 +1,5 @@
 -- How the serving of a session begins.
-use Rattle.std.specs.Prelude.{ℕ, zero, suc, List, [], ◌∷◌, Option, Some, None, slice_get, replicate}
+use Rattle.std.specs.Prelude.{ℕ, zero, suc, List, [], Option, Some, None, slice_get, replicate}
 use Rattle.smm_base.specs.declared.kinds.HandlerType.{HandlerType}
 use Rattle.cpu_table.specs.declared.waves.Wave.{Wave}
 use Rattle.cpu_table.specs.Data.{SetupData}

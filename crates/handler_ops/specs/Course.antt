@@ -1,7 +1,7 @@
 -- The course of serving: at each place the next access, and by the number that it finds what is said and what is done.
 --
 -- It doesn't go by the form of a whole list. A `Step` is one row: the need, and beside it what is made of the number found.
-use Rattle.std.specs.Prelude.{ℕ, zero, suc, ◌+◌, Bool, true, false, not, ◌&&◌, ◌||◌, ◌==◌, nat_lt, nat_le, if◌then◌else◌, List, [], ◌∷◌, ◌++◌, length, map, take, replicate, slice_index_or, Option, Some, None, is_some, is_none, unwrap_or, option_map, Result, Ok, Err}
+use Rattle.std.specs.Prelude.{ℕ, zero, suc, ◌+◌, Bool, true, false, not, ◌&&◌, ◌||◌, ◌==◌, nat_lt, nat_le, if◌then◌else◌, List, [], ◌∷◌, ◌++◌, length, map, take, replicate, slice_index_or, Option, Some, None, is_some, is_none, unwrap_or, Result, Ok, Err}
 use Rattle.std.specs.List.{filter}
 use Rattle.byteorder.specs.Endian.{little_number, little_bytes}
 use Rattle.smm_base.specs.declared.kinds.MapKind.TheVariants.{Ia32}
@@ -13,7 +13,6 @@ use Rattle.save_state_access.specs.Reading.{ReadAnswer, read_answer}
 use Rattle.save_state_access.specs.Writing.{WriteAnswer, write_answer}
 use Rattle.cpu_table.specs.declared.handlers.OpDef.{OpDef}
 use Rattle.cpu_table.specs.declared.handlers.OpDef.TheVariants as op
-use Rattle.cpu_table.specs.declared.handlers.ProcedureDef.{ProcedureDef}
 use Rattle.sync_words.specs.declared.label.StartRefusal.{StartRefusal}
 use Rattle.sync_words.specs.declared.label.StartRefusal.TheVariants as cause
 use Rattle.sync_words.specs.declared.label.Label.{Label}
@@ -28,7 +27,7 @@ use Rattle.handler_ops.specs.declared.desk.Desk.{Desk}
 use Rattle.handler_ops.specs.declared.desk.Job.{Job}
 use Rattle.handler_ops.specs.declared.need.Need.{Need}
 use Rattle.handler_ops.specs.declared.need.Need.TheVariants as need
-use Rattle.handler_ops.specs.Serving.{Serving, Seat, Free, Open, Done, Token, TokenState, NotOut, Uncollected, Collected, number, seat, token_of}
+use Rattle.handler_ops.specs.Serving.{Serving, Seat, Free, Open, Done, TokenState, NotOut, Uncollected, Collected, number, seat, token_of}
 use Rattle.handler_ops.specs.Operations.{register_of, pool_status, free_status, unregister_status, procedure_place}
 use Rattle.handler_ops.specs.Forms.{Event, Own, Ran, Program, status_of, turn_of}
 use Rattle.handler_ops.specs.Places.{Call, OpenWalk, Begun, First, Started, Awaited, Place, levels_left, next}

@@ -1,5 +1,5 @@
 -- The own label of each operation: which one fits, what it changes, and whose job may be collected before it.
-use Rattle.std.specs.Prelude.{◌≡◌, ◌<◌, ℕ, ◌+◌, Bool, true, false, List, length, Option, Some, None, position, unwrap_or, Result, Ok, Err}
+use Rattle.std.specs.Prelude.{◌≡◌, ◌<◌, ℕ, ◌+◌, Bool, true, false, List, length, Option, Some, position, unwrap_or, Result, Ok, Err}
 use Rattle.smm_base.specs.declared.status.Status.{Status}
 use Rattle.smm_base.specs.declared.status.Status.TheVariants.{Success, InvalidParameter, NotReady, NotFound, OutOfResources}
 use Rattle.smm_base.specs.declared.kinds.HandlerType.{HandlerType}
@@ -16,7 +16,7 @@ use Rattle.handler_registry.specs.Registrations.{is_live, is_full, registered, u
 use Rattle.smram_pool.specs.declared.error.PoolError.{PoolError}
 use Rattle.smram_pool.specs.declared.error.PoolError.TheVariants as pool
 use Rattle.smram_pool.specs.State.{allocated, freed}
-use Rattle.handler_ops.specs.Serving.{Serving, Seat, Free, Open, Done, TokenState, NotOut, Uncollected, Collected, number, put, put_on, seat, given_to, token_of, dropped, HasOpen, IsFree, IsDone, HasEnded, IsOutOn}
+use Rattle.handler_ops.specs.Serving.{Serving, Seat, Free, Open, Done, TokenState, NotOut, Uncollected, Collected, number, put, put_on, seat, given_to, token_of, dropped, IsFree, IsDone, IsOutOn}
 
 -- the register with this number; a platform names no number that is no register's, so that RAX never stands for none
 abbrev pub register_of : ℕ → Register

@@ -1,5 +1,5 @@
 -- What a procedure does with the image of the processor that runs it.
-use Rattle.std.specs.Prelude.{◌≡◌, ◌<◌, ℕ, true, List, length, replicate, slice_get, Option, Some, None, IsSomeAnd}
+use Rattle.std.specs.Prelude.{◌≡◌, ◌<◌, ℕ, true, List, length, replicate, slice_get, Option, Some, None}
 use Rattle.smm_base.specs.declared.status.Status.{Status}
 use Rattle.smm_base.specs.declared.status.Status.TheVariants.{NotFound}
 use Rattle.save_state_map.specs.Images.{ImageContents}

@@ -1,5 +1,5 @@
 -- What serving knows: the variables, what is registered, the pool, each processor's job, the tokens, the units left.
-use Rattle.std.specs.Prelude.{◌≡◌, ℕ, zero, suc, ◌+◌, Bool, true, false, ◌&&◌, ◌==◌, not, List, [], ◌∷◌, slice_index_or, slice_set, Option, Some, None, option_map, cond}
+use Rattle.std.specs.Prelude.{◌≡◌, ℕ, suc, Bool, true, false, ◌&&◌, ◌==◌, not, List, [], ◌∷◌, slice_index_or, slice_set, Option, Some, None, option_map, cond}
 use Rattle.std.specs.List.{find, filter}
 use Rattle.smm_base.specs.declared.status.Status.{Status}
 use Rattle.smm_base.specs.declared.status.Status.TheVariants.{Success}

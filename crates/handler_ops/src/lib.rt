@@ -6,8 +6,10 @@ mod desk;
 mod held;
 mod laws;
 mod need;
+mod procedure;
 
 pub use desk::{Desk, Job};
 pub use held::{Desks, Held};
 pub use laws::{courses, serving_lists, standing};
 pub use need::Need;
+pub use procedure::run_job;
