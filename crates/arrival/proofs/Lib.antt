@@ -1,0 +1,3 @@
+pub mod EntryLemmas
+pub mod GatherLemmas
+pub mod ReportLemmas
