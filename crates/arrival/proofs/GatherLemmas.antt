@@ -1,5 +1,6 @@
 -- Whom the BSP signals as it gathers the others, and which row of another part comes next.
-use Rattle.std.proofs.Common.{ℕ, ◌≡◌, ◌≢◌, ◌+◌, ◌<◌, ◌≤◌, ◌-◌, ◌==◌, not, Bool, true, false, if◌then◌else◌, List, [], ◌∷◌, zero, suc, Option, Some, None, refl, arith, eqb-eq, ap}
+use Rattle.std.proofs.Common.{ℕ, ◌≡◌, ◌≢◌, ◌+◌, ◌<◌, ◌≤◌, ◌-◌, ◌==◌, not, Bool, true, false, if◌then◌else◌, List, [], ◌∷◌, zero, suc, Option, Some, None, refl, arith, ap}
+use Rattle.std.proofs.lemmas.Bool.{eqb-true}
 use Rattle.std.specs.Prelude.{IfSome}
 use Rattle.std.specs.List.{find, range_with_len}
 use Rattle.sync_words.specs.declared.access.Access.TheVariants.{Signal}
@@ -47,7 +48,7 @@ signalled : (b : Bool) (found k j : ℕ) (after : Row) →
     after ≢ SignalMissing j →
     (if b then SignalMissing k else after) ≡ SignalMissing j →
     (FindMissing k ≡ FindMissing j) × (found ≡ 0)
-signalled true found k j after none apart is = let same : k ≡ j = cc in (ap FindMissing same, eqb-eq found 0 none)
+signalled true found k j after none apart is = let same : k ≡ j = cc in (ap FindMissing same, eqb-true found 0 none)
 signalled false found k j after none apart is = absurd (apart is)
 
 pub signals_missing : (row : Row) (g : GatherPosition) (found j : ℕ) →

@@ -1,7 +1,7 @@
 -- How the BSP gathers the others before it closes the session, row by row: two rounds of looks for all to have come, and
 -- between them an interrupt to each that hasn't reported. The rows are the project's own, after EDK II's
 -- PiSmmCpuDxeSmm (`SmmWaitForApArrival`) in outline.
-use Rattle.std.specs.Prelude.{ℕ, ◌≢◌, ◌<◌, ◌≤◌, ◌+◌, ◌==◌, nat_le, not, Bool, true, false, if◌then◌else◌, Option, Some, None}
+use Rattle.std.specs.Prelude.{ℕ, ◌≡◌, ◌≢◌, ◌<◌, ◌≤◌, ◌+◌, ◌==◌, nat_le, not, Bool, true, false, if◌then◌else◌, Option, Some, None}
 use Rattle.sync_words.specs.declared.access.Access.TheVariants.{Signal}
 use Rattle.sync_words.specs.declared.event.Want.{Want}
 use Rattle.sync_words.specs.declared.event.Want.TheVariants.{Off}
