@@ -9,6 +9,7 @@ use Rattle.sync_words.specs.declared.row.Row.{Row}
 use Rattle.sync_words.specs.declared.row.Row.TheVariants.{LookAtExcept, GatherFirst, FindMissing, SignalMissing, GatherSecond, MarkInsync}
 use Rattle.sync_words.specs.declared.word.WordId.TheVariants.{Pend}
 use Rattle.sync_words.specs.Steps.{hand_of, wants, row_or, next_below}
+use Rattle.arrival.specs.Rounds.{is_last_look}
 use Rattle.arrival.specs.Gather.{GatherPosition, IsGather, IsGatherRow, left_of, want_of, have_come, is_other, to_missing, looked, taken}
 
 pub moves_nothing : (row : Row) (g : GatherPosition) → hand_of (want_of row g) ≡ Nothing
@@ -59,8 +60,8 @@ signals_missing LookAtExcept g found j on is = absurd cc
 signals_missing (GatherFirst looks) g found j on is =
     absurd
     (looked_apart
-    (have_come g found)
-    (looks + 1 == g.first_looks)
+    (have_come g.processors g.blocked found)
+    (is_last_look looks g.first_looks)
     found
     1
     (GatherFirst (looks + 1))
@@ -76,8 +77,8 @@ signals_missing (SignalMissing k) g found j on is = absurd (missing_apart (next_
 signals_missing (GatherSecond looks) g found j on is =
     absurd
     (looked_apart
-    (have_come g found)
-    (looks + 1 == g.second_looks)
+    (have_come g.processors g.blocked found)
+    (is_last_look looks g.second_looks)
     found
     2
     (GatherSecond (looks + 1))
@@ -115,8 +116,8 @@ pub gathering_leaves_to : (row : Row) (g : GatherPosition) (found : ℕ) →
 gathering_leaves_to LookAtExcept g found on = tt
 gathering_leaves_to (GatherFirst looks) g found on =
     looked_leaves
-    (have_come g found)
-    (looks + 1 == g.first_looks)
+    (have_come g.processors g.blocked found)
+    (is_last_look looks g.first_looks)
     found
     1
     (GatherFirst (looks + 1))
@@ -128,5 +129,5 @@ gathering_leaves_to (FindMissing k) g found on =
     found_leaves (found == 0) k (to_missing g.processors g.me (k + 1)) (missing_leaves (next_below g.processors (is_other g.me) (k + 1)))
 gathering_leaves_to (SignalMissing k) g found on = missing_leaves (next_below g.processors (is_other g.me) (k + 1))
 gathering_leaves_to (GatherSecond looks) g found on =
-    looked_leaves (have_come g found) (looks + 1 == g.second_looks) found 2 (GatherSecond (looks + 1)) MarkInsync g tt refl
+    looked_leaves (have_come g.processors g.blocked found) (is_last_look looks g.second_looks) found 2 (GatherSecond (looks + 1)) MarkInsync g tt refl
 gathering_leaves_to _ g found on = absurd cc

@@ -9,6 +9,7 @@ use Rattle.sync_words.specs.declared.row.Row.{Row}
 use Rattle.sync_words.specs.declared.row.Row.TheVariants.{AwaitInside, FindBsp, SignalBsp, AwaitInsideAgain, CountOut, SeekBsp, Report, TellReported}
 use Rattle.sync_words.specs.declared.word.WordId.TheVariants.{Present}
 use Rattle.sync_words.specs.Steps.{Taken, hand_of}
+use Rattle.arrival.specs.Rounds.{is_last_look}
 use Rattle.arrival.specs.Report.{ReportPosition, left_of, want_of, taken}
 use Rattle.arrival.specs.Laws.{IsAfterReport}
 
@@ -43,11 +44,11 @@ position_leaves false p q first second = second
 
 pub report_leaves_to : (row : Row) (r : ReportPosition) (found : ℕ) → left_of row ≡ None → IfSome (left_of (taken row r found).after.row) IsAfterReport
 report_leaves_to (AwaitInside looks) r found on =
-    either_leaves (found == 0) _ SeekBsp (either_leaves (looks + 1 == r.first_looks) FindBsp (AwaitInside (looks + 1)) tt tt) tt
+    either_leaves (found == 0) _ SeekBsp (either_leaves (is_last_look looks r.first_looks) FindBsp (AwaitInside (looks + 1)) tt tt) tt
 report_leaves_to FindBsp r found on = position_leaves (nat_lt found r.processors) _ _ tt tt
 report_leaves_to SignalBsp r found on = tt
 report_leaves_to (AwaitInsideAgain looks) r found on =
-    either_leaves (found == 0) _ SeekBsp (either_leaves (looks + 1 == r.second_looks) CountOut (AwaitInsideAgain (looks + 1)) tt tt) tt
+    either_leaves (found == 0) _ SeekBsp (either_leaves (is_last_look looks r.second_looks) CountOut (AwaitInsideAgain (looks + 1)) tt tt) tt
 report_leaves_to CountOut r found on = taken_leaves (found == LOCKED) _ _ tt tt
 report_leaves_to SeekBsp r found on = tt
 report_leaves_to Report r found on = tt

@@ -10,6 +10,7 @@ use Rattle.sync_words.specs.declared.row.Row.{Row}
 use Rattle.sync_words.specs.declared.row.Row.TheVariants.{LookAtExcept, GatherFirst, FindMissing, SignalMissing, GatherSecond, MarkInsync}
 use Rattle.sync_words.specs.declared.word.WordId.TheVariants.{Counter, Except, Pend, Present}
 use Rattle.sync_words.specs.Steps.{Taken, says, wants, looks_at, next_below, row_or}
+use Rattle.arrival.specs.Rounds.{is_last_look}
 
 -- where the BSP stands as it gathers the others, with what it has found so far
 pub record GatherPosition : Type 0 where
@@ -80,8 +81,8 @@ IsMissingRow processors me (GatherSecond looks) = looks ≡ 0
 IsMissingRow processors me _ = ⊥
 
 -- all have come: so many are counted in, and the others are blocked
-abbrev pub have_come : GatherPosition → ℕ → Bool
-have_come g counted = nat_le g.processors (counted + g.blocked)
+abbrev pub have_come : ℕ → ℕ → ℕ → Bool
+have_come processors blocked counted = nat_le processors (counted + blocked)
 
 -- a look for all to have come: the waiting ends where they have, and the round ends with its last look
 abbrev pub looked : Bool → Bool → ℕ → ℕ → Row → Row → GatherPosition → Taken GatherPosition
@@ -93,9 +94,9 @@ looked false false counted round again after g = says Silent (go g again)
 abbrev pub taken : Row → GatherPosition → ℕ → Taken GatherPosition
 taken LookAtExcept g found = says (Gather found) (record g { row = GatherFirst 0; blocked = found })
 taken (GatherFirst looks) g found =
-    looked (have_come g found) (looks + 1 == g.first_looks) found 1 (GatherFirst (looks + 1)) (to_missing g.processors g.me 0) g
+    looked (have_come g.processors g.blocked found) (is_last_look looks g.first_looks) found 1 (GatherFirst (looks + 1)) (to_missing g.processors g.me 0) g
 taken (FindMissing j) g found = says Silent (go g (if found == 0 then SignalMissing j else to_missing g.processors g.me (j + 1)))
 taken (SignalMissing j) g found = says Silent (go g (to_missing g.processors g.me (j + 1)))
 taken (GatherSecond looks) g found =
-    looked (have_come g found) (looks + 1 == g.second_looks) found 2 (GatherSecond (looks + 1)) MarkInsync g
+    looked (have_come g.processors g.blocked found) (is_last_look looks g.second_looks) found 2 (GatherSecond (looks + 1)) MarkInsync g
 taken _ g found = says Silent g

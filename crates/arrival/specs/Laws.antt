@@ -1,4 +1,5 @@
--- The laws of arriving: which rows give and take which desk, whom a signal is for, and which rows of other parts come next.
+-- The laws of arriving: which rows give and take which desk, whom a signal is for, which rows of other parts come next, and that
+-- what is wanted and where a processor stands are within bounds.
 use Rattle.std.specs.Prelude.{ℕ, ◌≡◌, ◌≢◌, Option, None, IfSome}
 use Rattle.sync_words.specs.declared.access.Access.TheVariants.{Put, Claim, Signal}
 use Rattle.sync_words.specs.declared.access.TheConstants.{LOCKED}
@@ -7,7 +8,8 @@ use Rattle.sync_words.specs.declared.event.Want.TheVariants.{Access}
 use Rattle.sync_words.specs.declared.row.Row.{Row}
 use Rattle.sync_words.specs.declared.row.Row.TheVariants.{FindMissing, SignalMissing, MarkInside, MarkInsync, AwaitInside, AwaitRelease, AwaitSessionEnd}
 use Rattle.sync_words.specs.declared.word.WordId.TheVariants.{Bsp, Pend, Present}
-use Rattle.sync_words.specs.Steps.{hand_of, wants}
+use Rattle.sync_words.specs.declared.access.Applied.{Applied}
+use Rattle.sync_words.specs.Steps.{hand_of, wants, found_of, Accepts, IsWantWithin}
 use Rattle.arrival.specs.Entry as entry
 use Rattle.arrival.specs.Gather as gather
 use Rattle.arrival.specs.Report as report
@@ -76,3 +78,27 @@ ReportLeavesTo =
     (row : Row) (r : report.ReportPosition) (found : ℕ) →
     report.left_of row ≡ None →
     IfSome (report.left_of (report.taken row r found).after.row) IsAfterReport
+
+-- what is wanted is within bounds: the numbers of the access are those of a word, and there is such a processor
+abbrev pub EntryWantsWithin : Type 0
+EntryWantsWithin = (e : entry.EntryPosition) → entry.IsEntry e → IsWantWithin e.processors (entry.want_of e.row e)
+
+abbrev pub GatheringWantsWithin : Type 0
+GatheringWantsWithin = (g : gather.GatherPosition) → gather.IsGather g → IsWantWithin g.processors (gather.want_of g.row g)
+
+abbrev pub ReportWantsWithin : Type 0
+ReportWantsWithin = (r : report.ReportPosition) → report.IsReport r → IsWantWithin r.processors (report.want_of r.row r)
+
+-- a position within bounds is followed by one
+abbrev pub EntryStaysWithin : Type 0
+EntryStaysWithin = (e : entry.EntryPosition) (found : ℕ) → entry.IsEntry e → entry.IsEntry ((entry.taken e.row e found).after)
+
+abbrev pub GatheringStaysWithin : Type 0
+GatheringStaysWithin = (g : gather.GatherPosition) (found : ℕ) → gather.IsGather g → gather.IsGather ((gather.taken g.row g found).after)
+
+abbrev pub ReportStaysWithin : Type 0
+ReportStaysWithin =
+    (r : report.ReportPosition) (answer : Applied) →
+    report.IsReport r →
+    Accepts (report.want_of r.row r) answer →
+    report.IsReport ((report.taken r.row r (found_of answer)).after)

@@ -12,6 +12,7 @@ use Rattle.sync_words.specs.declared.row.Row.{Row}
 use Rattle.sync_words.specs.declared.row.Row.TheVariants.{AwaitInside, FindBsp, SignalBsp, AwaitInsideAgain, CountOut, SeekBsp, Report, TellReported, AwaitRelease, AwaitSessionEnd}
 use Rattle.sync_words.specs.declared.word.WordId.TheVariants.{Counter, Bsp, Inside, Pend, Present, Run}
 use Rattle.sync_words.specs.Steps.{Taken, says, wants, looks_at}
+use Rattle.arrival.specs.Rounds.{is_last_look}
 
 -- where an AP stands as it waits for the BSP and reports, with what it has found so far
 pub record ReportPosition : Type 0 where
@@ -79,12 +80,12 @@ go r row = record r { row = row }
 -- what the event at a row says by the number found, and the position after it
 abbrev pub taken : Row → ReportPosition → ℕ → Taken ReportPosition
 taken (AwaitInside looks) r found =
-    says Silent (go r (if found == 0 then (if looks + 1 == r.first_looks then FindBsp else AwaitInside (looks + 1)) else SeekBsp))
+    says Silent (go r (if found == 0 then (if is_last_look looks r.first_looks then FindBsp else AwaitInside (looks + 1)) else SeekBsp))
 taken FindBsp r found =
     says Silent (if nat_lt found r.processors then record r { row = SignalBsp; bsp = found } else go r (AwaitInsideAgain 0))
 taken SignalBsp r found = says Silent (go r (AwaitInsideAgain 0))
 taken (AwaitInsideAgain looks) r found =
-    says Silent (go r (if found == 0 then (if looks + 1 == r.second_looks then CountOut else AwaitInsideAgain (looks + 1)) else SeekBsp))
+    says Silent (go r (if found == 0 then (if is_last_look looks r.second_looks then CountOut else AwaitInsideAgain (looks + 1)) else SeekBsp))
 taken CountOut r found = if found == LOCKED then says Silent (go r SeekBsp) else says Quit (go r AwaitSessionEnd)
 taken SeekBsp r found = says Silent (record r { row = Report; bsp = found })
 taken Report r found = says Reported (go r TellReported)

@@ -2,7 +2,7 @@ ghost use Rattle.std.specs.Prelude.{◌≡◌, ◌<◌, None, IsNone};
 ghost use Rattle.sync_words.specs.Steps.{Accepts, IsWantWithin, found_of};
 ghost use Rattle.arrival.specs.Entry.{after_arrival, entry_of, left_of, taken, want_of};
 
-use crate::wants::{look_at, want};
+use crate::rows::{look_at, want};
 use cpu_table::{Policy, Setup};
 use std::marker::Model;
 use sync_words::{Access, Applied, Hand, LOCKED, Label, Row, Want, WordId};

@@ -1,8 +1,8 @@
 ghost use Rattle.std.specs.Prelude.{◌≡◌, ◌<◌, ◌≤◌, ◌≢◌, None, IfSome};
 ghost use Rattle.sync_words.specs.Steps.{Accepts, IsWantWithin, found_of, next_below};
-ghost use Rattle.arrival.specs.Gather.{gather_of, is_other, left_of, taken, to_missing, want_of, IsMissingRow};
+ghost use Rattle.arrival.specs.Gather.{gather_of, have_come, is_other, left_of, taken, to_missing, want_of, IsMissingRow};
 
-use crate::wants::{look_at, want};
+use crate::rows::{is_last_look, look_at, want};
 use cpu_table::Setup;
 use std::marker::Model;
 use sync_words::{Access, Applied, Label, Row, Want, WordId};
@@ -85,18 +85,18 @@ impl Gather {
         ensures after { self.new ≡ (taken self.old.row self.old (found_of applied)).after }
     {
         let found = applied.found();
-        let have_come = u64::from(found) + u64::from(self.blocked) >= u64::from(self.processors);
+        let all_came = all_have_come(self.processors, self.blocked, found);
         match self.row {
             Row::LookAtExcept => {
                 self.blocked = found;
                 self.row = Row::GatherFirst(0);
                 Label::Gather(found)
             }
-            Row::GatherFirst(_) | Row::GatherSecond(_) if have_come => {
+            Row::GatherFirst(_) | Row::GatherSecond(_) if all_came => {
                 self.row = Row::MarkInsync;
                 Label::Ready(found)
             }
-            Row::GatherFirst(looks) if looks + 1 == self.first_looks => {
+            Row::GatherFirst(looks) if is_last_look(looks, self.first_looks) => {
                 self.row = missing_row(self.processors, self.me, 0);
                 Label::Expire(1)
             }
@@ -112,7 +112,7 @@ impl Gather {
                 self.row = missing_row(self.processors, self.me, cpu + 1);
                 Label::Silent
             }
-            Row::GatherSecond(looks) if looks + 1 == self.second_looks => {
+            Row::GatherSecond(looks) if is_last_look(looks, self.second_looks) => {
                 self.row = Row::MarkInsync;
                 Label::Expire(2)
             }
@@ -123,6 +123,13 @@ impl Gather {
             _ => Label::Silent,
         }
     }
+}
+
+// Have all come, where so many are blocked and so many are counted in?
+fn all_have_come(processors: u16, blocked: u32, counted: u32) -> bool
+    ensures { result ≡ have_come processors blocked counted }
+{
+    u64::from(counted) + u64::from(blocked) >= u64::from(processors)
 }
 
 // The row of the next processor from `from` on other than `me`, or the second round where there is none.

@@ -5,7 +5,7 @@ mod entry;
 mod gather;
 mod laws;
 mod report;
-mod wants;
+mod rows;
 
 pub use entry::Entry;
 pub use gather::Gather;

@@ -2,7 +2,7 @@ ghost use Rattle.std.specs.Prelude.{◌≡◌, ◌<◌, None};
 ghost use Rattle.sync_words.specs.Steps.{Accepts, IsWantWithin, found_of};
 ghost use Rattle.arrival.specs.Report.{bsp_of, left_of, report_of, taken, want_of};
 
-use crate::wants::{look_at, want};
+use crate::rows::{is_last_look, look_at, want};
 use cpu_table::Setup;
 use std::marker::Model;
 use sync_words::{Access, Applied, Hand, LOCKED, Label, Row, Want, WordId};
@@ -109,7 +109,7 @@ impl Report {
                 self.row = Row::SeekBsp;
                 Label::Silent
             }
-            Row::AwaitInside(looks) if looks + 1 == self.first_looks => {
+            Row::AwaitInside(looks) if is_last_look(looks, self.first_looks) => {
                 self.row = Row::FindBsp;
                 Label::Silent
             }
@@ -126,7 +126,7 @@ impl Report {
                 self.row = Row::AwaitInsideAgain(0);
                 Label::Silent
             }
-            Row::AwaitInsideAgain(looks) if looks + 1 == self.second_looks => {
+            Row::AwaitInsideAgain(looks) if is_last_look(looks, self.second_looks) => {
                 self.row = Row::CountOut;
                 Label::Silent
             }
