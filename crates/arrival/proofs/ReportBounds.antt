@@ -81,7 +81,7 @@ sought : (b : Bool) (found n : ℕ) (answer : Applied) →
     IsTrue (is_ready answer) →
     found < n
 sought true found n answer is meaning ready = lt_holds found n is
-sought false found n answer is meaning ready = absurd (subst (λ a. IsTrue (is_ready a)) meaning ready)
+sought false found n answer is meaning ready = absurd (let waits : false ≡ true = subst (λ a. IsTrue (is_ready a)) meaning ready in cc)
 
 stays_at : (row : Row) (r : ReportPosition) (answer : Applied) →
     IsReport r →

@@ -27,8 +27,8 @@ finds test from zero j is = absurd cc
 finds test from (suc count) j is = found_at (test from) test from count j refl is (finds test (from + 1) count j)
 
 passes_apart : (b : Bool) → not b ≡ true → b ≡ true → ⊥
-passes_apart true is yes = cc
-passes_apart false is yes = cc
+passes_apart true fails holds = cc
+passes_apart false fails holds = cc
 
 other_apart : (me j : ℕ) → is_other me j ≡ true → j ≢ me
 other_apart me j is = λ same. passes_apart _ is (eq-eqb j me same)
@@ -50,4 +50,4 @@ other_found processors me from =
 
 pub more_looks : (looks most : ℕ) → looks < most → is_last_look looks most ≡ false → looks + 1 < most
 more_looks looks most within more =
-    elim (eqb_tells (looks + 1) most) [ inl last ↦ absurd (let yes = last.0 in cc) | inr other ↦ omega (arith, other.1) ]
+    elim (eqb_tells (looks + 1) most) [ inl last ↦ absurd (let holds = last.0 in cc) | inr other ↦ omega (arith, other.1) ]
