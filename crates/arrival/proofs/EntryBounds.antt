@@ -1,5 +1,5 @@
 -- An entry wants what is within bounds, and stays within bounds.
-use Rattle.std.proofs.Common.{ℕ, ◌≡◌, ◌<◌, ◌≤◌, ◌==◌, ◌&&◌, Bool, true, false, if◌then◌else◌, arith}
+use Rattle.std.proofs.Common.{ℕ, ◌==◌, ◌&&◌, Bool, true, false, if◌then◌else◌, arith}
 use Rattle.sync_words.specs.declared.access.TheConstants.{LOCKED}
 use Rattle.sync_words.specs.declared.row.Row.{Row}
 use Rattle.sync_words.specs.declared.row.Row.TheVariants.{LookAtSource, LookAtInside, CountIn, ClaimBsp, LookAtBsp}

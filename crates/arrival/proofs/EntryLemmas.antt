@@ -1,5 +1,5 @@
 -- Which rows of the entry change hands, and which rows of other parts come next.
-use Rattle.std.proofs.Common.{ℕ, ◌≡◌, ◌≢◌, ◌==◌, ◌&&◌, Bool, true, false, if◌then◌else◌, Option, Some, None, refl, arith}
+use Rattle.std.proofs.Common.{ℕ, ◌≡◌, ◌≢◌, ◌==◌, ◌&&◌, Bool, true, false, if◌then◌else◌, None, refl}
 use Rattle.std.specs.Prelude.{IfSome}
 use Rattle.smm_base.specs.declared.kinds.Policy.{Policy}
 use Rattle.smm_base.specs.declared.kinds.Policy.TheVariants.{Elected, Fixed}
@@ -11,7 +11,7 @@ use Rattle.sync_words.specs.declared.row.Row.{Row}
 use Rattle.sync_words.specs.declared.row.Row.TheVariants.{LookAtSource, LookAtInside, CountIn, ClaimBsp, LookAtBsp, AwaitInside}
 use Rattle.sync_words.specs.declared.word.WordId.TheVariants.{Bsp}
 use Rattle.sync_words.specs.Steps.{Taken, hand_of}
-use Rattle.arrival.specs.Entry.{EntryPosition, left_of, want_of, to_elect, after_arrival, elected, taken}
+use Rattle.arrival.specs.Entry.{EntryPosition, left_of, want_of, to_elect, elected, taken}
 use Rattle.arrival.specs.Laws.{IsAfterEntry}
 
 pub only_the_claim_takes : (row : Row) (e : EntryPosition) →

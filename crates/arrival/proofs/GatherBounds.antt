@@ -1,5 +1,5 @@
 -- The gathering wants what is within bounds, and stays within bounds.
-use Rattle.std.proofs.Common.{ℕ, ◌≡◌, ◌≢◌, ◌+◌, ◌<◌, ◌≤◌, ◌==◌, Bool, true, false, if◌then◌else◌, Option, Some, None, refl, arith}
+use Rattle.std.proofs.Common.{ℕ, ◌≡◌, ◌+◌, ◌==◌, Bool, true, false, if◌then◌else◌, Option, Some, None, refl, arith}
 use Rattle.std.specs.Prelude.{IfSome}
 use Rattle.sync_words.specs.declared.row.Row.{Row}
 use Rattle.sync_words.specs.declared.row.Row.TheVariants.{LookAtExcept, GatherFirst, FindMissing, SignalMissing, GatherSecond, MarkInsync}

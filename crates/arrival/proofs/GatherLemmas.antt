@@ -1,8 +1,7 @@
 -- Whom the BSP signals as it gathers the others, and which row of another part comes next.
-use Rattle.std.proofs.Common.{ℕ, ◌≡◌, ◌≢◌, ◌+◌, ◌<◌, ◌≤◌, ◌-◌, ◌==◌, not, Bool, true, false, if◌then◌else◌, List, [], ◌∷◌, zero, suc, Option, Some, None, refl, arith, ap}
+use Rattle.std.proofs.Common.{ℕ, ◌≡◌, ◌≢◌, ◌+◌, ◌==◌, Bool, true, false, if◌then◌else◌, Option, Some, None, refl, ap}
 use Rattle.std.proofs.lemmas.Bool.{eqb-true}
 use Rattle.std.specs.Prelude.{IfSome}
-use Rattle.std.specs.List.{find, range_with_len}
 use Rattle.sync_words.specs.declared.access.Access.TheVariants.{Signal}
 use Rattle.sync_words.specs.declared.event.Hand.TheVariants.{Nothing}
 use Rattle.sync_words.specs.declared.row.Row.{Row}

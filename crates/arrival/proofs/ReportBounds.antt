@@ -1,13 +1,12 @@
 -- The report of an AP wants what is within bounds, and stays within bounds.
-use Rattle.std.proofs.Common.{ℕ, ◌≡◌, ◌+◌, ◌<◌, ◌≤◌, ◌==◌, nat_lt, Bool, true, false, if◌then◌else◌, arith, refl, subst}
+use Rattle.std.proofs.Common.{ℕ, ◌≡◌, ◌+◌, ◌<◌, ◌==◌, nat_lt, Bool, true, false, if◌then◌else◌, arith, refl, subst}
 use Rattle.std.specs.Prelude.{IsTrue}
-use Rattle.sync_words.specs.declared.access.Access.TheVariants.{Seek}
 use Rattle.sync_words.specs.declared.access.Applied.{Applied}
-use Rattle.sync_words.specs.declared.access.Applied.TheVariants.{Changed, Same, NotReady}
+use Rattle.sync_words.specs.declared.access.Applied.TheVariants.{Same, NotReady}
 use Rattle.sync_words.specs.declared.access.TheConstants.{LOCKED}
 use Rattle.sync_words.specs.declared.row.Row.{Row}
 use Rattle.sync_words.specs.declared.row.Row.TheVariants.{AwaitInside, FindBsp, SignalBsp, AwaitInsideAgain, CountOut, SeekBsp, Report, TellReported, AwaitRelease, AwaitSessionEnd}
-use Rattle.sync_words.specs.Steps.{Taken, IsWantWithin, Accepts, IsAccepted, found_of, is_ready}
+use Rattle.sync_words.specs.Steps.{Taken, IsWantWithin, Accepts, found_of, is_ready}
 use Rattle.arrival.specs.Rounds.{is_last_look}
 use Rattle.arrival.specs.Report.{ReportPosition, IsReport, IsReportRow, go, want_of, taken}
 use Rattle.arrival.proofs.SearchLemmas.{more_looks}

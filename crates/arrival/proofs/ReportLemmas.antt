@@ -1,5 +1,5 @@
 -- Which rows of an AP's report change hands, and which rows of other parts come next.
-use Rattle.std.proofs.Common.{ℕ, ◌≡◌, ◌≢◌, ◌+◌, ◌==◌, Bool, true, false, nat_lt, if◌then◌else◌, Option, Some, None, refl}
+use Rattle.std.proofs.Common.{ℕ, ◌≡◌, ◌≢◌, ◌+◌, ◌==◌, Bool, true, false, nat_lt, if◌then◌else◌, None, refl}
 use Rattle.std.specs.Prelude.{IfSome}
 use Rattle.sync_words.specs.declared.access.Access.TheVariants.{Put}
 use Rattle.sync_words.specs.declared.access.TheConstants.{LOCKED}

@@ -1,6 +1,6 @@
 -- The laws of arriving: which rows give and take which desk, whom a signal is for, which rows of other parts come next, and that
 -- what is wanted and where a processor stands are within bounds.
-use Rattle.std.specs.Prelude.{ℕ, ◌≡◌, ◌≢◌, Option, None, IfSome}
+use Rattle.std.specs.Prelude.{ℕ, ◌≡◌, ◌≢◌, None, IfSome}
 use Rattle.sync_words.specs.declared.access.Access.TheVariants.{Put, Claim, Signal}
 use Rattle.sync_words.specs.declared.access.TheConstants.{LOCKED}
 use Rattle.sync_words.specs.declared.event.Hand.TheVariants.{Nothing, Give, Take}
