@@ -1,5 +1,6 @@
 ghost use Rattle.std.specs.Prelude.{◌≡◌, ◌≤◌, Some};
 ghost use Rattle.sync_words.specs.Access.{applied, IsWithin, LeavesWord};
+ghost use Rattle.sync_words.specs.Steps.{found_of};
 ghost use Rattle.sync_words.specs.Texts.{access_text};
 
 use crate::signal::{DELIVERABLE, HELD, INSIDE, NO_SIGNAL, OFF};
@@ -77,8 +78,6 @@ pub enum Applied {
 }
 
 impl Applied {
-    ghost use Rattle.sync_words.specs.Steps.{found_of};
-
     /// The number that the access found.
     pub fn found(self) -> u32
         ensures { result ≡ found_of self }
@@ -97,6 +96,7 @@ pub fn apply(value: u32, access: Access) -> Applied
     requires access_fits { IsWithin access }
     ensures meaning { result ≡ applied value access }
     ensures fits { LeavesWord result }
+    ensures found { found_of result ≡ value }
 {
     let found = value;
     let signal = value % INSIDE;
