@@ -1,5 +1,5 @@
 -- Lists that grow by one element at the end.
-use Rattle.std.proofs.Common.{◌≡◌, ◌<◌, ◌≤◌, All, eqb, ℕ, zero, suc, ◌+◌, ◌==◌, Bool, true, false, not, ◌&&◌, ◌||◌, List, [], ◌∷◌, ◌++◌, get_or, length, length-append, refl, ap, sym, subst, ◌∙◌, arith}
+use Rattle.std.proofs.Common.{◌≡◌, ◌<◌, ◌≤◌, All, eqb, ℕ, zero, suc, ◌+◌, ◌==◌, Bool, true, false, not, ◌&&◌, ◌||◌, List, [], ◌∷◌, ◌++◌, get_or, length, refl, ap, sym, subst, ◌∙◌, arith}
 use Rattle.std.proofs.lemmas.Bool.{and_parts, false≢true}
 use Rattle.std.specs.Cmp.{nat_eq_equiv}
 use Rattle.std.specs.List.{IsDistinct, list_any, list_all, range_with_len}
@@ -61,9 +61,6 @@ pub numbers_more : (n : ℕ) → range_with_len 0 n ++ n ∷ [] ≡ range_with_l
 numbers_more n =
     let same : n ≡ 0 + n = omega arith in
     ap (λ m. range_with_len 0 n ++ m ∷ []) same ∙ range_more 0 n
-
-pub length_more : {A : Type 0} (xs : List A) (x : A) (n : ℕ) → length xs ≡ n → length (xs ++ x ∷ []) ≡ n + 1
-length_more xs x n is = omega (arith, length-append xs (x ∷ []), is)
 
 pub none_distinct : IsDistinct eqb []
 unfolding IsDistinct

@@ -1,5 +1,3 @@
-pub mod Chains
-pub mod Digits
 pub mod Documents
 pub mod Fits
 pub mod Growing

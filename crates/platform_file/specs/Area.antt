@@ -2,14 +2,14 @@
 use Rattle.std.specs.Prelude.{ℕ, pos, ◌+◌, nat_le, if◌then◌else◌, List, [], ◌∷◌, Option, Ok, Err, Some, None}
 use Rattle.toml.specs.Data.{Members}
 use Rattle.cpu_table.specs.declared.setup.Smram.{Smram as Area}
-use Rattle.platform_file.specs.declared.path.TablePlace.TheVariants.{Smram}
-use Rattle.platform_file.specs.declared.path.Key.{Key}
-use Rattle.platform_file.specs.declared.path.Key.TheVariants as key
+use Rattle.platform_document.specs.declared.path.TablePlace.TheVariants.{Smram}
+use Rattle.platform_document.specs.declared.path.Key.{Key}
+use Rattle.platform_document.specs.declared.path.Key.TheVariants as key
 use Rattle.cpu_table.specs.declared.layout.LayoutError.{LayoutError}
 use Rattle.cpu_table.specs.Layout.{layout_refusal}
-use Rattle.platform_file.specs.declared.fault.WalkFault.TheVariants.{Range, Layout}
-use Rattle.platform_file.specs.Reading.{Reading, read_then, path_to, number_at, and_no_other}
-use Rattle.platform_file.specs.Head.{greatest, smram_at}
+use Rattle.platform_document.specs.declared.fault.WalkFault.TheVariants.{Range, Layout}
+use Rattle.platform_document.specs.Reading.{Reading, read_then, path_to, greatest, number_at, and_no_other}
+use Rattle.platform_file.specs.Head.{smram_at}
 
 -- the size, where the area ends by 4 GiB
 abbrev pub size_after : ℕ → ℕ → Reading ℕ

@@ -5,13 +5,13 @@ use Rattle.toml.specs.Data.{Data, Members}
 use Rattle.smm_base.specs.Kinds.{is_io_length, is_io_type}
 use Rattle.smm_base.specs.declared.kinds.IoCause.{IoCause}
 use Rattle.cpu_table.specs.declared.setup.CauseAt.{CauseAt}
-use Rattle.platform_file.specs.declared.path.TablePlace.{TablePlace}
-use Rattle.platform_file.specs.declared.path.TablePlace.TheVariants as place
-use Rattle.platform_file.specs.declared.path.Key.{Key}
-use Rattle.platform_file.specs.declared.path.Key.TheVariants as key
-use Rattle.platform_file.specs.declared.path.Path.{Path}
-use Rattle.platform_file.specs.declared.fault.WalkFault.TheVariants.{Range}
-use Rattle.platform_file.specs.Reading.{Reading, read_then, path_to, found_at, table_of, entry_of, flag_of, number_at, each, and_no_other}
+use Rattle.platform_document.specs.declared.path.TablePlace.{TablePlace}
+use Rattle.platform_document.specs.declared.path.TablePlace.TheVariants as place
+use Rattle.platform_document.specs.declared.path.Key.{Key}
+use Rattle.platform_document.specs.declared.path.Key.TheVariants as key
+use Rattle.platform_document.specs.declared.path.Path.{Path}
+use Rattle.platform_document.specs.declared.fault.WalkFault.TheVariants.{Range}
+use Rattle.platform_document.specs.Reading.{Reading, read_then, path_to, found_at, table_of, entry_of, flag_of, number_at, each, and_no_other}
 use Rattle.platform_file.specs.Head.{cause_entries}
 
 -- a number that is one of those that there are

@@ -6,14 +6,14 @@ use Rattle.cpu_table.specs.Ranges.{is_name, same_text}
 use Rattle.cpu_table.specs.declared.handlers.OpDef.{OpDef}
 use Rattle.cpu_table.specs.declared.handlers.HandlerDef.{HandlerDef}
 use Rattle.cpu_table.specs.declared.handlers.ProcedureDef.{ProcedureDef}
-use Rattle.platform_file.specs.declared.path.TablePlace.{TablePlace}
-use Rattle.platform_file.specs.declared.path.TablePlace.TheVariants as place
-use Rattle.platform_file.specs.declared.path.Key.{Key}
-use Rattle.platform_file.specs.declared.path.Key.TheVariants as key
-use Rattle.platform_file.specs.declared.path.Path.{Path}
-use Rattle.platform_file.specs.declared.fault.WalkFault.TheVariants.{Word}
-use Rattle.platform_file.specs.Reading.{Reading, read_then, path_to, entry_of, list_at, text_at, word_at, each, and_no_other}
-use Rattle.platform_file.specs.Words.{start_list_of, answer_of, act_of}
+use Rattle.platform_document.specs.declared.path.TablePlace.{TablePlace}
+use Rattle.platform_document.specs.declared.path.TablePlace.TheVariants as place
+use Rattle.platform_document.specs.declared.path.Key.{Key}
+use Rattle.platform_document.specs.declared.path.Key.TheVariants as key
+use Rattle.platform_document.specs.declared.path.Path.{Path}
+use Rattle.platform_document.specs.declared.fault.WalkFault.TheVariants.{Word}
+use Rattle.platform_document.specs.Reading.{Reading, read_then, path_to, entry_of, list_at, text_at, word_at, each, and_no_other}
+use Rattle.platform_document.specs.Words.{start_list_of, answer_of, act_of}
 use Rattle.platform_file.specs.Operations.{operation_after, register_at}
 use Rattle.platform_file.specs.Head.{handler_entries, procedure_entries}
 

@@ -5,21 +5,17 @@ use Rattle.std.specs.List.{IsDistinct, list_any, range_with_len}
 use Rattle.toml.specs.Data.{Data, Members}
 use Rattle.smm_base.specs.declared.kinds.Policy.{Policy}
 use Rattle.smm_base.specs.declared.kinds.Policy.TheVariants.{Elected, Fixed}
-use Rattle.platform_file.specs.declared.path.TablePlace.TheVariants.{Top}
-use Rattle.platform_file.specs.declared.path.Key.{Key}
-use Rattle.platform_file.specs.declared.path.Key.TheVariants as key
-use Rattle.platform_file.specs.declared.path.Path.{Path}
-use Rattle.platform_file.specs.declared.fault.WalkFault.TheVariants.{Range}
+use Rattle.platform_document.specs.declared.path.TablePlace.TheVariants.{Top}
+use Rattle.platform_document.specs.declared.path.Key.{Key}
+use Rattle.platform_document.specs.declared.path.Key.TheVariants as key
+use Rattle.platform_document.specs.declared.path.Path.{Path}
+use Rattle.platform_document.specs.declared.fault.WalkFault.TheVariants.{Range}
 use Rattle.platform_file.specs.declared.head.Head.{Head}
 use Rattle.platform_file.specs.declared.head.Polls.{Polls}
-use Rattle.platform_file.specs.declared.word.PolicyWord.{PolicyWord}
-use Rattle.platform_file.specs.declared.word.PolicyWord.TheVariants as policy
-use Rattle.platform_file.specs.Reading.{Reading, read_then, path_to, found_at, optional, table_of, list_of, list_at, entries_at, number_value, number_at, word_at, each, and_no_other}
-use Rattle.platform_file.specs.Words.{map_of, policy_of, mode_of}
-
--- the greatest integer of a TOML file
-abbrev pub greatest : ℕ
-greatest = 9223372036854775807
+use Rattle.platform_document.specs.declared.word.PolicyWord.{PolicyWord}
+use Rattle.platform_document.specs.declared.word.PolicyWord.TheVariants as policy
+use Rattle.platform_document.specs.Reading.{Reading, read_then, path_to, found_at, optional, greatest, table_of, list_of, list_at, entries_at, number_value, number_at, word_at, each, and_no_other}
+use Rattle.platform_document.specs.Words.{map_of, policy_of, mode_of}
 
 abbrev pub top : Key → Path
 top key = path_to Top key

@@ -3,9 +3,6 @@ pub mod Causes
 pub mod Handlers
 pub mod Head
 pub mod Operations
-pub mod Path
-pub mod Reading
 pub mod Texts
 pub mod Walk
 pub mod Waves
-pub mod Words

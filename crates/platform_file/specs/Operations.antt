@@ -1,27 +1,23 @@
 -- A handler's operations.
-use Rattle.std.specs.Prelude.{ℕ, ℤ, Bool, false, List, [], ◌∷◌, length, Option, Some, None, Ok, Err, ok_or}
+use Rattle.std.specs.Prelude.{ℕ, Bool, false, List, [], ◌∷◌, length, Option, Some, None, Ok}
 use Rattle.std.specs.List.{position}
 use Rattle.std.specs.Option.{option_and_then}
 use Rattle.std.specs.Str.{bytes_eq}
-use Rattle.toml.specs.Data.{Data, Members, get, as_str, as_integer}
+use Rattle.toml.specs.Data.{Data, Members, get, as_str}
 use Rattle.smm_base.specs.Register.{register_named, register_number}
 use Rattle.smm_base.specs.declared.kinds.HandlerType.{HandlerType}
-use Rattle.cpu_table.specs.declared.handlers.Operand.{Operand}
-use Rattle.cpu_table.specs.declared.handlers.Operand.TheVariants.{Number}
 use Rattle.cpu_table.specs.declared.handlers.OpDef.{OpDef}
 use Rattle.cpu_table.specs.declared.handlers.OpDef.TheVariants as op
-use Rattle.platform_file.specs.declared.path.TablePlace.{TablePlace}
-use Rattle.platform_file.specs.declared.path.TablePlace.TheVariants as place
-use Rattle.platform_file.specs.declared.path.Key.{Key}
-use Rattle.platform_file.specs.declared.path.Key.TheVariants as key
-use Rattle.platform_file.specs.declared.path.Path.{Path}
-use Rattle.platform_file.specs.declared.fault.WalkFault.TheVariants.{WrongType, Word}
-use Rattle.platform_file.specs.declared.word.OperationWord.{OperationWord}
-use Rattle.platform_file.specs.declared.word.OperationWord.TheVariants as word
-use Rattle.platform_file.specs.Path.{key_text}
-use Rattle.platform_file.specs.Reading.{Reading, read_then, path_to, required, entry_of, number_within, number_at, text_at, word_at, and_no_other}
-use Rattle.platform_file.specs.Words.{kind_of, variable_of, operand_of, operation_word}
-use Rattle.platform_file.specs.Head.{greatest}
+use Rattle.platform_document.specs.declared.path.TablePlace.{TablePlace}
+use Rattle.platform_document.specs.declared.path.TablePlace.TheVariants as place
+use Rattle.platform_document.specs.declared.path.Key.{Key}
+use Rattle.platform_document.specs.declared.path.Key.TheVariants as key
+use Rattle.platform_document.specs.declared.word.OperationWord.{OperationWord}
+use Rattle.platform_document.specs.declared.word.OperationWord.TheVariants as word
+use Rattle.platform_document.specs.Path.{key_text}
+use Rattle.platform_document.specs.Reading.{Reading, read_then, path_to, entry_of, number_at, text_at, word_at, and_no_other}
+use Rattle.platform_document.specs.Words.{kind_of, variable_of, operation_word}
+use Rattle.platform_document.specs.Operands.{operand_at}
 
 -- the keys of an operation that several have
 abbrev pub cpu_at : TablePlace → Members → Reading ℕ
@@ -38,25 +34,6 @@ into_at place table = read_then (word_at (path_to place key.Into) variable_of ta
 
 abbrev pub kind_at : TablePlace → Members → Reading HandlerType
 kind_at place table = word_at (path_to place key.Type) kind_of table
-
--- an operand as an integer from 0
-abbrev pub operand_number : Path → ℤ → Reading Operand
-operand_number path number = read_then (number_within path 0 greatest number) (λ n. Ok (Number n))
-
--- an operand as a text, if it is one
-abbrev pub operand_text : Path → Option (List ℕ) → Reading Operand
-operand_text path None = Err (WrongType path)
-operand_text path (Some text) = ok_or (operand_of text) (Word path)
-
-abbrev pub operand_by : Path → Option ℤ → Option (List ℕ) → Reading Operand
-operand_by path (Some number) text = operand_number path number
-operand_by path None text = operand_text path text
-
-abbrev pub operand_value : Path → Data → Reading Operand
-operand_value path value = operand_by path (as_integer value) (as_str value)
-
-abbrev pub operand_at : Path → Members → Reading Operand
-operand_at path table = read_then (required path table) (operand_value path)
 
 -- has the entry of the list of handlers this name? Its other keys are of no matter
 abbrev pub text_is : List ℕ → Option (List ℕ) → Bool

@@ -6,13 +6,13 @@ use Rattle.toml.specs.Parse.{parse_document}
 use Rattle.cpu_table.specs.Ranges.{events_at_most}
 use Rattle.cpu_table.specs.declared.setup.Smram.{Smram}
 use Rattle.cpu_table.specs.Data.{SetupData}
-use Rattle.platform_file.specs.declared.fault.WalkFault.{WalkFault}
-use Rattle.platform_file.specs.declared.fault.WalkFault.TheVariants as fault
+use Rattle.platform_document.specs.declared.fault.WalkFault.{WalkFault}
+use Rattle.platform_document.specs.declared.fault.WalkFault.TheVariants as fault
 use Rattle.platform_file.specs.declared.error.PlatformError.{PlatformError}
 use Rattle.platform_file.specs.declared.error.PlatformError.TheVariants as error
 use Rattle.platform_file.specs.declared.head.Head.{Head}
-use Rattle.platform_file.specs.Path.{path_text, place_text, name_under}
-use Rattle.platform_file.specs.Reading.{Reading, read_then}
+use Rattle.platform_document.specs.Path.{path_text, place_text, name_under}
+use Rattle.platform_document.specs.Reading.{Reading, read_then}
 use Rattle.platform_file.specs.Head.{head_at}
 use Rattle.platform_file.specs.Area.{area_at, layout_judged}
 use Rattle.platform_file.specs.Waves.{waves_at}

@@ -4,13 +4,13 @@ use Rattle.toml.specs.Data.{Data, Members}
 use Rattle.smm_base.specs.declared.kinds.HandlerType.{HandlerType}
 use Rattle.cpu_table.specs.declared.waves.Arrival.{Arrival}
 use Rattle.cpu_table.specs.declared.waves.Wave.{Wave}
-use Rattle.platform_file.specs.declared.path.TablePlace.{TablePlace}
-use Rattle.platform_file.specs.declared.path.TablePlace.TheVariants as place
-use Rattle.platform_file.specs.declared.path.Key.{Key}
-use Rattle.platform_file.specs.declared.path.Key.TheVariants as key
-use Rattle.platform_file.specs.declared.path.Path.{Path}
-use Rattle.platform_file.specs.Reading.{Reading, read_then, path_to, entry_of, list_at, word_after, each, and_no_other}
-use Rattle.platform_file.specs.Words.{arrival_of, kind_of}
+use Rattle.platform_document.specs.declared.path.TablePlace.{TablePlace}
+use Rattle.platform_document.specs.declared.path.TablePlace.TheVariants as place
+use Rattle.platform_document.specs.declared.path.Key.{Key}
+use Rattle.platform_document.specs.declared.path.Key.TheVariants as key
+use Rattle.platform_document.specs.declared.path.Path.{Path}
+use Rattle.platform_document.specs.Reading.{Reading, read_then, path_to, entry_of, list_at, word_after, each, and_no_other}
+use Rattle.platform_document.specs.Words.{arrival_of, kind_of}
 use Rattle.platform_file.specs.Head.{wave_entries}
 
 -- a word for each processor

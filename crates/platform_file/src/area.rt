@@ -2,15 +2,13 @@ ghost use Rattle.std.specs.Prelude.{◌≡◌, ◌≤◌, ◌+◌, IfOk, IfErr, 
 ghost use Rattle.cpu_table.specs.Layout.{layout_fits};
 ghost use Rattle.toml.specs.View.{table_view};
 ghost use Rattle.cpu_table.specs.Ranges.{area_fits, smram_fits};
-ghost use Rattle.platform_file.specs.Reading.{StopsAt, path_to};
-ghost use Rattle.platform_file.specs.declared.path.TablePlace.TheVariants as place;
+ghost use Rattle.platform_document.specs.Reading.{StopsAt, path_to};
+ghost use Rattle.platform_document.specs.declared.path.TablePlace.TheVariants as place;
 ghost use Rattle.platform_file.specs.Area.{size_at, area_in, area_at, layout_judged};
 
-use crate::document::{number_at, refuse_others};
-use crate::fault::WalkFault;
-use crate::head::{GREATEST, smram_at};
-use crate::path::{Key, TablePlace, path_to};
+use crate::head::smram_at;
 use cpu_table::{Smram, layout_fault};
+use platform_document::{GREATEST, Key, TablePlace, WalkFault, number_at, path_to, refuse_others};
 use std::alloc::Global;
 use toml::Table;
 

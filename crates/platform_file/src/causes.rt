@@ -1,18 +1,19 @@
 ghost use Rattle.std.specs.Prelude.{◌≡◌, ◌≤◌, ◌-◌, [], IfOk, IfErr, Ok, Some, IsTrue, IsFalse, map, length};
-ghost use Rattle.std.specs.List.{list_any, list_all};
+ghost use Rattle.std.specs.List.{list_any};
 ghost use Rattle.toml.specs.View.{view, table_view};
 ghost use Rattle.smm_base.specs.Kinds.{is_io_length, is_io_type};
-ghost use Rattle.cpu_table.specs.Ranges.{cause_fits, causes_fit, same_visit};
-ghost use Rattle.platform_file.specs.Reading.{StopsAt, each, path_to, flag_of, optional, found_at, number_at};
-ghost use Rattle.platform_file.specs.Causes.{instruction, length_at, type_at, instruction_in, io_of, io_at, halt_at, is_of, visit_after, visit_at, cause_in, cause_next, cause_after, causes_at};
-ghost use Rattle.platform_file.specs.declared.path.TablePlace.TheVariants as place;
-ghost use Rattle.platform_file.specs.declared.path.Key.TheVariants as key;
+ghost use Rattle.cpu_table.specs.Ranges.{cause_fits, causes_fit};
+ghost use Rattle.platform_document.specs.Reading.{StopsAt, each, path_to, flag_of, number_at};
+ghost use Rattle.platform_file.specs.Causes.{instruction, length_at, type_at, instruction_in, io_at, halt_at, is_of, visit_at, cause_in, cause_next, cause_after, causes_at};
+ghost use Rattle.platform_document.specs.declared.path.TablePlace.TheVariants as place;
+ghost use Rattle.platform_document.specs.declared.path.Key.TheVariants as key;
 
-use crate::document::{entry_of, flag_of, member, number_at, refuse_others, table_of};
-use crate::fault::WalkFault;
 use crate::head::cause_entries;
-use crate::path::{Key, Path, TablePlace, path_to};
 use cpu_table::{CauseAt, Items};
+use platform_document::{
+    Key, Path, TablePlace, WalkFault, entry_of, flag_of, member, number_at, path_to, refuse_others,
+    table_of,
+};
 use smm_base::{Cause, IoCause};
 use std::alloc::Global;
 use toml::{Table, Value};

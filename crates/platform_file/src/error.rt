@@ -1,11 +1,9 @@
-ghost use Rattle.std.specs.Prelude.{◌≡◌, ◌⊎◌, ◌++◌, IfOk, IfErr, string_bytes};
-ghost use Rattle.platform_file.specs.Path.{entry_text, place_text, name_under, path_text};
+ghost use Rattle.std.specs.Prelude.{◌≡◌, ◌⊎◌, ◌++◌, IfOk};
 ghost use Rattle.platform_file.specs.Walk.{error_of};
 ghost use Rattle.platform_file.specs.declared.error.PlatformError.TheVariants.{NoMemory as no_memory};
 
-use crate::fault::WalkFault;
-use crate::path::{Path, TablePlace};
 use cpu_table::{LayoutError, Text};
+use platform_document::{WalkFault, name_under, path_text, place_text};
 use smm_base::NoMemory;
 use std::alloc::Global;
 use std::fmt;
@@ -65,41 +63,6 @@ impl From<NoMemory> for PlatformError {
     fn from(_: NoMemory) -> Self {
         PlatformError::NoMemory
     }
-}
-
-// A table by its key, and an entry by its place in brackets after.
-fn place_text(alloc: Global, place: TablePlace) -> Result<String, NoMemory>
-    ensures { IfOk result (λ text. string_bytes text ≡ place_text place) }
-{
-    Ok(match place {
-        TablePlace::Top => String::new(alloc),
-        TablePlace::Smram => String::from_str(alloc, "smram")?,
-        TablePlace::Wave(at) => format!(in alloc; "wave[{at}]")?,
-        TablePlace::Handler(at) => format!(in alloc; "handler[{at}]")?,
-        TablePlace::Operation(handler, at) => format!(in alloc; "handler[{handler}].ops[{at}]")?,
-        TablePlace::Procedure(at) => format!(in alloc; "procedure[{at}]")?,
-        TablePlace::Cause(at) => format!(in alloc; "cause[{at}]")?,
-        TablePlace::Io(at) => format!(in alloc; "cause[{at}].io")?,
-    })
-}
-
-// A name in a table.
-fn name_under(alloc: Global, place: TablePlace, name: &str) -> Result<Text, NoMemory>
-    ensures { IfOk result (λ text. text ≡ name_under place name.now) }
-{
-    let mut text = place_text(alloc, place)?;
-    if !text.is_empty() {
-        text.push_str(".")?;
-    }
-    text.push_str(name)?;
-    Ok(Text::new(text))
-}
-
-// The path of a key.
-fn path_text(alloc: Global, path: Path) -> Result<Text, NoMemory>
-    ensures { IfOk result (λ text. text ≡ path_text path) }
-{
-    name_under(alloc, path.place, path.key.text())
 }
 
 // The error of a fault, with its key as a path.

@@ -1,19 +1,18 @@
-ghost use Rattle.std.specs.Prelude.{◌≡◌, ◌≤◌, [], IfOk, IfErr, Ok, IsTrue, IsFalse, map, length, string_bytes};
-ghost use Rattle.std.specs.List.{list_any, list_all};
+ghost use Rattle.std.specs.Prelude.{◌≡◌, ◌≤◌, [], IfOk, IfErr, Ok, IsTrue, IsFalse, map, length};
+ghost use Rattle.std.specs.List.{list_all};
 ghost use Rattle.toml.specs.View.{view, table_view};
-ghost use Rattle.cpu_table.specs.Distinct.{are_distinct};
-ghost use Rattle.cpu_table.specs.Ranges.{is_name, same_text, is_answer, op_fits, handler_fits, handlers_fit};
-ghost use Rattle.platform_file.specs.Reading.{StopsAt, each, path_to, word_at};
-ghost use Rattle.platform_file.specs.Words.{answer_of};
-ghost use Rattle.platform_file.specs.declared.path.TablePlace.TheVariants as place;
+ghost use Rattle.cpu_table.specs.Ranges.{is_name, is_answer, op_fits, handler_fits, handlers_fit};
+ghost use Rattle.platform_document.specs.Reading.{StopsAt, path_to, word_at};
+ghost use Rattle.platform_document.specs.Words.{answer_of};
+ghost use Rattle.platform_document.specs.declared.path.TablePlace.TheVariants as place;
 ghost use Rattle.platform_file.specs.Handlers.{name_unless, name_at, has_handler, operations_at, handler_in, handler_after, handlers_in, handlers_at};
 
-use crate::document::{entry_of, list_at, refuse_others, text_at, word_at};
-use crate::fault::WalkFault;
 use crate::head::handler_entries;
 use crate::operations::operations_of;
-use crate::path::{Key, Path, TablePlace, path_to};
 use cpu_table::{HandlerDef, Items, OpDef, Text};
+use platform_document::{
+    Key, Path, TablePlace, WalkFault, entry_of, list_at, path_to, refuse_others, text_at, word_at,
+};
 use smm_base::Status;
 use std::alloc::Global;
 use toml::{Table, Value};

@@ -3,25 +3,20 @@ ghost use Rattle.std.specs.Option.{option_map};
 ghost use Rattle.std.specs.Result.{result_map_both};
 ghost use Rattle.toml.specs.View.{view, table_view};
 ghost use Rattle.cpu_table.specs.Ranges.{policy_fits};
-ghost use Rattle.platform_file.specs.Reading.{StopsAt, each, number_value};
-ghost use Rattle.platform_file.specs.declared.path.Key.TheVariants as key;
-ghost use Rattle.platform_file.specs.declared.fault.WalkFault.TheVariants.{NoMemory};
+ghost use Rattle.platform_document.specs.Reading.{StopsAt, each, number_value};
+ghost use Rattle.platform_document.specs.declared.path.Key.TheVariants as key;
+ghost use Rattle.platform_document.specs.declared.fault.WalkFault.TheVariants.{NoMemory};
 ghost use Rattle.std.specs.List.{IsDistinct, range_with_len, list_any};
-ghost use Rattle.platform_file.specs.Head.{policy_at, polls_in, polls_at, id_after, ids_of, ids_by, ids_at, smram_at, wave_entries, handler_entries, procedure_entries, cause_entries, keys_by, lists_checked, keys_read, head_at, top, HeadFits};
+ghost use Rattle.platform_file.specs.Head.{policy_at, polls_at, id_after, ids_at, smram_at, wave_entries, handler_entries, procedure_entries, cause_entries, keys_by, lists_checked, keys_read, head_at, top, HeadFits};
 
-use crate::document::{
-    entries_at, list_at, list_of, member, number_at, number_value, refuse_others, table_of, word_at,
-};
-use crate::fault::WalkFault;
-use crate::path::{Key, Path, TablePlace};
-use crate::word::PolicyWord;
 use cpu_table::{CpuTable, Mode, TableError};
+use platform_document::{
+    GREATEST, Key, Path, PolicyWord, TablePlace, WalkFault, entries_at, list_at, list_of, member,
+    number_at, number_value, refuse_others, table_of, word_at,
+};
 use smm_base::{MapKind, Policy};
 use std::alloc::Global;
 use toml::{Table, Value};
-
-/// The greatest integer of a TOML file.
-pub const GREATEST: u64 = 9223372036854775807;
 
 /// The looks of both rounds of waiting.
 #[derive(Clone, Copy)]

@@ -3,15 +3,14 @@ ghost use Rattle.std.specs.List.{list_all, position};
 ghost use Rattle.toml.specs.View.{view, table_view};
 ghost use Rattle.smm_base.specs.Register.{is_register_number};
 ghost use Rattle.cpu_table.specs.Ranges.{is_variable, op_fits};
-ghost use Rattle.platform_file.specs.Reading.{StopsAt, each, path_to};
-ghost use Rattle.platform_file.specs.Operations.{cpu_at, register_at, width_at, into_at, kind_at, handler_named, handler_at, has_name, set_in, read_in, write_in, start_in, launch_in, check_in, wait_in, alloc_in, free_in, register_in, unregister_in, manage_in, operation_by, operation_keys, operation_as, operation_in, operation_after};
+ghost use Rattle.platform_document.specs.Reading.{StopsAt, each, path_to};
+ghost use Rattle.platform_file.specs.Operations.{cpu_at, register_at, width_at, into_at, kind_at, handler_named, handler_at, has_name, set_in, read_in, write_in, start_in, launch_in, check_in, wait_in, alloc_in, free_in, register_in, unregister_in, manage_in, operation_by, operation_keys, operation_in, operation_after};
 
-use crate::document::{entry_of, member, number_at, refuse_others, text_at, word_at};
-use crate::fault::WalkFault;
-use crate::operand::{Variable, operand_at};
-use crate::path::{Key, TablePlace, path_to};
-use crate::word::OperationWord;
 use cpu_table::{OpDef, Text};
+use platform_document::{
+    Key, OperationWord, TablePlace, Variable, WalkFault, entry_of, member, number_at, operand_at,
+    path_to, refuse_others, text_at, word_at,
+};
 use smm_base::{HandlerType, Register, register_laws};
 use std::alloc::Global;
 use toml::{Table, Value};

@@ -4,7 +4,7 @@ ghost use Rattle.toml.specs.Errors.{IsMemory};
 ghost use Rattle.cpu_table.specs.Data.{data_of};
 ghost use Rattle.cpu_table.specs.Layout.{layout_fits};
 ghost use Rattle.cpu_table.specs.Ranges.{events_at_most, smram_fits};
-ghost use Rattle.platform_file.specs.Reading.{StopsAt};
+ghost use Rattle.platform_document.specs.Reading.{StopsAt};
 ghost use Rattle.platform_file.specs.Walk.{most_events, limits_judged, tables_at, setup_at, document_of, setup_read};
 ghost use Rattle.platform_file.specs.Head.{HeadFits};
 ghost use Rattle.platform_file.specs.declared.error.PlatformError.TheVariants.{NoMemory, NotToml};
@@ -12,12 +12,12 @@ ghost use Rattle.platform_file.specs.declared.error.PlatformError.TheVariants.{N
 use crate::area::{area_at, judge_layout};
 use crate::causes::causes_at;
 use crate::error::{PlatformError, error_of};
-use crate::fault::WalkFault;
 use crate::handlers::handlers_at;
 use crate::head::{Head, head_at};
 use crate::procedures::procedures_at;
 use crate::waves::waves_at;
 use cpu_table::{Setup, Smram};
+use platform_document::WalkFault;
 use std::alloc::Global;
 use toml::Table;
 

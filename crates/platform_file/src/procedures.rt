@@ -1,17 +1,16 @@
 ghost use Rattle.std.specs.Prelude.{◌≡◌, ◌≤◌, [], IfOk, IfErr, Ok, IsTrue, IsFalse, map, length};
-ghost use Rattle.std.specs.List.{list_any, list_all};
 ghost use Rattle.toml.specs.View.{view, table_view};
-ghost use Rattle.cpu_table.specs.Ranges.{is_name, same_text, procedure_fits, procedures_fit};
-ghost use Rattle.platform_file.specs.Reading.{StopsAt, each, path_to};
+ghost use Rattle.cpu_table.specs.Ranges.{is_name, procedure_fits, procedures_fit};
+ghost use Rattle.platform_document.specs.Reading.{StopsAt, each, path_to};
 ghost use Rattle.platform_file.specs.Handlers.{name_at, has_procedure, procedure_in, procedure_after, procedures_at};
 
-use crate::document::{entry_of, refuse_others, text_at, word_at};
-use crate::fault::WalkFault;
 use crate::handlers::name_after;
 use crate::head::procedure_entries;
 use crate::operations::register_at;
-use crate::path::{Key, Path, TablePlace, path_to};
 use cpu_table::{Items, ProcedureDef, Text};
+use platform_document::{
+    Key, Path, TablePlace, WalkFault, entry_of, path_to, refuse_others, text_at, word_at,
+};
 use std::alloc::Global;
 use toml::{Table, Value};
 

@@ -2,16 +2,15 @@ ghost use Rattle.std.specs.Prelude.{◌≡◌, ◌≤◌, [], IfOk, IfErr, Ok, I
 ghost use Rattle.toml.specs.View.{view, table_view};
 ghost use Rattle.cpu_table.specs.Ranges.{wave_fits, waves_fit};
 ghost use Rattle.std.specs.List.{list_all};
-ghost use Rattle.platform_file.specs.Reading.{StopsAt, each, word_of, path_to};
-ghost use Rattle.platform_file.specs.Words.{arrival_of, kind_of};
+ghost use Rattle.platform_document.specs.Reading.{StopsAt, each};
 ghost use Rattle.platform_file.specs.Waves.{statuses_at, walks_at, wave_in, wave_after, waves_at};
-ghost use Rattle.platform_file.specs.declared.path.TablePlace.TheVariants as place;
+ghost use Rattle.platform_document.specs.declared.path.TablePlace.TheVariants as place;
 
-use crate::document::{entry_of, list_at, refuse_others, words_of};
-use crate::fault::WalkFault;
 use crate::head::wave_entries;
-use crate::path::{Key, Path, TablePlace};
 use cpu_table::{Arrival, Items, Wave};
+use platform_document::{
+    Key, Path, TablePlace, WalkFault, entry_of, list_at, refuse_others, words_of,
+};
 use smm_base::HandlerType;
 use std::alloc::Global;
 use toml::{Table, Value};

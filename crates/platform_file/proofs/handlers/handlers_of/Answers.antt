@@ -1,8 +1,8 @@
 use Rattle.std.proofs.Common.{◌≡◌, ◌∙◌, arith, map, length}
 use Rattle.std.proofs.lemmas.Result.{err_from_is_err_and}
 use Rattle.toml.specs.View.{view}
-use Rattle.platform_file.proofs.Chains.{each_found, each_stops, each_ends}
-use Rattle.platform_file.proofs.Growing.{all_more, distinct_more, length_more}
+use Rattle.platform_document.proofs.Chains.{each_found, each_stops, each_ends, length_more}
+use Rattle.platform_file.proofs.Growing.{all_more, distinct_more}
 use Rattle.cpu_table.specs.Ranges.{same_text, handler_fits}
 use Rattle.cpu_table.specs.declared.handlers.HandlerDef.{HandlerDef}
 use Rattle.platform_file.specs.Handlers.{handler_after}

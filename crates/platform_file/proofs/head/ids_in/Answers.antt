@@ -3,10 +3,10 @@ use Rattle.std.proofs.lemmas.List.Elements.{All-nil, All-push}
 use Rattle.std.proofs.lemmas.Result.{err_from_is_err_and}
 use Rattle.toml.specs.View.{view}
 use Rattle.std.specs.List.{IsDistinct}
-use Rattle.platform_file.specs.Reading.{each}
+use Rattle.platform_document.specs.Reading.{each}
 use Rattle.platform_file.specs.Head.{id_after}
-use Rattle.platform_file.proofs.Growing.{length_more, none_distinct, numbers_distinct_more}
-use Rattle.platform_file.proofs.Chains.{each_found, each_stops, each_ends}
+use Rattle.platform_file.proofs.Growing.{none_distinct, numbers_distinct_more}
+use Rattle.platform_document.proofs.Chains.{each_found, each_stops, each_ends, length_more}
 use Rattle.platform_file.proofs.head.ids_in.Goals as goal
 
 pub returns-in_err-id-clause-refused : goal.returns-in_err-id-clause-refused

@@ -1,7 +1,7 @@
 use Rattle.std.proofs.Common.{◌≡◌, ◌<◌, ◌≤◌, All, eqb, [], map, drop, length}
 use Rattle.std.specs.List.{IsDistinct}
 use Rattle.toml.specs.View.{view}
-use Rattle.platform_file.specs.Reading.{each}
+use Rattle.platform_document.specs.Reading.{each}
 use Rattle.platform_file.specs.Head.{id_after}
 use Rattle.platform_file.proofs.head.ids_in.Given as goal
 

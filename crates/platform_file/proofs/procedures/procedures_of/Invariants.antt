@@ -1,7 +1,7 @@
 use Rattle.std.proofs.Common.{◌≡◌, ◌≤◌, [], map, drop, length, IsTrue}
 use Rattle.std.specs.List.{list_all}
 use Rattle.toml.specs.View.{view}
-use Rattle.platform_file.specs.Reading.{each}
+use Rattle.platform_document.specs.Reading.{each}
 use Rattle.cpu_table.specs.Ranges.{same_text, procedure_fits}
 use Rattle.cpu_table.specs.Distinct.{are_distinct}
 use Rattle.platform_file.specs.Handlers.{procedure_after}

@@ -1,0 +1,4 @@
+pub mod Operands
+pub mod Path
+pub mod Reading
+pub mod Words

@@ -1,7 +1,0 @@
-use Rattle.std.proofs.Common.{◌∙◌, sym, ap}
-use Rattle.platform_file.specs.Words.{are_digits}
-use Rattle.platform_file.proofs.Digits.{never_fails}
-use Rattle.platform_file.proofs.operand.number_of_digits.Goals as goal
-
-pub unreachable-requires : goal.unreachable-requires
-unreachable-requires c = never_fails c.args.digits.now (sym (c.if-not-are_digits.ensures ∙ ap are_digits c.as_bytes.ensures.value)) c.in-Err.ensures.value
