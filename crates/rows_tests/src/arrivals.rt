@@ -173,7 +173,7 @@ struct Actor {
 }
 
 // What an access that finds this number was accepted with.
-fn accepted(found: u32, access: Access) -> Option<Applied>
+pub fn accepted(found: u32, access: Access) -> Option<Applied>
     requires found { found ≤ LOCKED }
     requires access { IsWithin access }
     ensures { IfSome result (IsAccepted access) }

@@ -3,3 +3,5 @@
 
 #[cfg(test)]
 mod arrivals;
+#[cfg(test)]
+mod handshakes;

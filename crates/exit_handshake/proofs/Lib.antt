@@ -1,0 +1,4 @@
+pub mod DeskLemmas
+pub mod NextLemmas
+pub mod CloseLemmas
+pub mod ExitLemmas

@@ -1,0 +1,4 @@
+pub mod Desks
+pub mod Close
+pub mod Exit
+pub mod Laws
