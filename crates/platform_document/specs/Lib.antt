@@ -1,3 +1,4 @@
+pub mod CommonKeys
 pub mod Operands
 pub mod Path
 pub mod Reading

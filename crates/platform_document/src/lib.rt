@@ -2,6 +2,7 @@
 // number, a word, a text, an operand, a table or a list, or gives the fault with the path of the key.
 #![tactic(auto)]
 
+mod common_keys;
 mod document;
 mod fault;
 mod operand;
@@ -9,6 +10,7 @@ mod path;
 mod register;
 mod word;
 
+pub use common_keys::{cpu_at, into_at, kind_at, register_at, width_at};
 pub use document::{
     GREATEST, entries_at, entry_of, flag_of, list_at, list_of, member, number_at, number_value,
     number_within, refuse_others, table_of, text_at, word_at, word_of, words_of,

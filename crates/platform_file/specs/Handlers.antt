@@ -13,8 +13,9 @@ use Rattle.platform_document.specs.declared.path.Key.TheVariants as key
 use Rattle.platform_document.specs.declared.path.Path.{Path}
 use Rattle.platform_document.specs.declared.fault.WalkFault.TheVariants.{Word}
 use Rattle.platform_document.specs.Reading.{Reading, read_then, path_to, entry_of, list_at, text_at, word_at, each, and_no_other}
+use Rattle.platform_document.specs.CommonKeys.{register_at}
 use Rattle.platform_document.specs.Words.{start_list_of, answer_of, act_of}
-use Rattle.platform_file.specs.Operations.{operation_after, register_at}
+use Rattle.platform_file.specs.Operations.{operation_after}
 use Rattle.platform_file.specs.Head.{handler_entries, procedure_entries}
 
 -- a name of 1 to 32 bytes that none before has

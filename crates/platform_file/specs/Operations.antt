@@ -4,8 +4,6 @@ use Rattle.std.specs.List.{position}
 use Rattle.std.specs.Option.{option_and_then}
 use Rattle.std.specs.Str.{bytes_eq}
 use Rattle.toml.specs.Data.{Data, Members, get, as_str}
-use Rattle.smm_base.specs.Register.{register_named, register_number}
-use Rattle.smm_base.specs.declared.kinds.HandlerType.{HandlerType}
 use Rattle.cpu_table.specs.declared.handlers.OpDef.{OpDef}
 use Rattle.cpu_table.specs.declared.handlers.OpDef.TheVariants as op
 use Rattle.platform_document.specs.declared.path.TablePlace.{TablePlace}
@@ -15,25 +13,10 @@ use Rattle.platform_document.specs.declared.path.Key.TheVariants as key
 use Rattle.platform_document.specs.declared.word.OperationWord.{OperationWord}
 use Rattle.platform_document.specs.declared.word.OperationWord.TheVariants as word
 use Rattle.platform_document.specs.Path.{key_text}
-use Rattle.platform_document.specs.Reading.{Reading, read_then, path_to, entry_of, number_at, text_at, word_at, and_no_other}
-use Rattle.platform_document.specs.Words.{kind_of, variable_of, operation_word}
+use Rattle.platform_document.specs.Reading.{Reading, read_then, path_to, entry_of, text_at, word_at, and_no_other}
+use Rattle.platform_document.specs.Words.{operation_word}
+use Rattle.platform_document.specs.CommonKeys.{cpu_at, register_at, width_at, into_at, kind_at}
 use Rattle.platform_document.specs.Operands.{operand_at}
-
--- the keys of an operation that several have
-abbrev pub cpu_at : TablePlace → Members → Reading ℕ
-cpu_at place table = number_at (path_to place key.Cpu) 0 65535 table
-
-abbrev pub register_at : TablePlace → Members → Reading ℕ
-register_at place table = read_then (word_at (path_to place key.Reg) register_named table) (λ register. Ok (register_number register))
-
-abbrev pub width_at : TablePlace → Members → Reading ℕ
-width_at place table = number_at (path_to place key.Width) 0 24 table
-
-abbrev pub into_at : TablePlace → Members → Reading ℕ
-into_at place table = read_then (word_at (path_to place key.Into) variable_of table) (λ variable. Ok variable.number)
-
-abbrev pub kind_at : TablePlace → Members → Reading HandlerType
-kind_at place table = word_at (path_to place key.Type) kind_of table
 
 -- has the entry of the list of handlers this name? Its other keys are of no matter
 abbrev pub text_is : List ℕ → Option (List ℕ) → Bool

@@ -1,58 +1,17 @@
 ghost use Rattle.std.specs.Prelude.{◌≡◌, ◌≤◌, ◌<◌, [], IfOk, IfErr, IfSome, Ok, IsTrue, map, length};
 ghost use Rattle.std.specs.List.{list_all, position};
 ghost use Rattle.toml.specs.View.{view, table_view};
-ghost use Rattle.smm_base.specs.Register.{is_register_number};
-ghost use Rattle.cpu_table.specs.Ranges.{is_variable, op_fits};
+ghost use Rattle.cpu_table.specs.Ranges.{op_fits};
 ghost use Rattle.platform_document.specs.Reading.{StopsAt, each, path_to};
-ghost use Rattle.platform_file.specs.Operations.{cpu_at, register_at, width_at, into_at, kind_at, handler_named, handler_at, has_name, set_in, read_in, write_in, start_in, launch_in, check_in, wait_in, alloc_in, free_in, register_in, unregister_in, manage_in, operation_by, operation_keys, operation_in, operation_after};
+ghost use Rattle.platform_file.specs.Operations.{handler_named, handler_at, has_name, set_in, read_in, write_in, start_in, launch_in, check_in, wait_in, alloc_in, free_in, register_in, unregister_in, manage_in, operation_by, operation_keys, operation_in, operation_after};
 
 use cpu_table::{OpDef, Text};
 use platform_document::{
-    Key, OperationWord, TablePlace, Variable, WalkFault, entry_of, member, number_at, operand_at,
-    path_to, refuse_others, text_at, word_at,
+    Key, OperationWord, TablePlace, WalkFault, cpu_at, entry_of, into_at, kind_at, member,
+    operand_at, path_to, refuse_others, register_at, text_at, width_at, word_at,
 };
-use smm_base::{HandlerType, Register, register_laws};
 use std::alloc::Global;
 use toml::{Table, Value};
-
-fn cpu_at(table: &Table, place: TablePlace) -> Result<u16, WalkFault>
-    ensures { result ≡ cpu_at place (table_view table.now) }
-{
-    let number = number_at(table, path_to(place, Key::Cpu), 0, 65535)?;
-    Ok(number as u16)
-}
-
-/// The number of a register that a key `reg` names.
-pub fn register_at(table: &Table, place: TablePlace) -> Result<u32, WalkFault>
-    ensures register { result ≡ register_at place (table_view table.now) }
-    ensures fits { IfOk result (λ number. IsTrue (is_register_number number)) }
-{
-    let register: Register = word_at(table, path_to(place, Key::Reg))?;
-    register_laws();
-    Ok(register.number())
-}
-
-fn width_at(table: &Table, place: TablePlace) -> Result<u8, WalkFault>
-    ensures width { result ≡ width_at place (table_view table.now) }
-    ensures fits { IfOk result (λ width. width ≤ 24) }
-{
-    let width = number_at(table, path_to(place, Key::Width), 0, 24)?;
-    Ok(width as u8)
-}
-
-fn into_at(table: &Table, place: TablePlace) -> Result<u8, WalkFault>
-    ensures into { result ≡ into_at place (table_view table.now) }
-    ensures fits { IfOk result (λ into. IsTrue (is_variable into)) }
-{
-    let variable: Variable = word_at(table, path_to(place, Key::Into))?;
-    Ok(variable.number)
-}
-
-fn kind_at(table: &Table, place: TablePlace) -> Result<HandlerType, WalkFault>
-    ensures { result ≡ kind_at place (table_view table.now) }
-{
-    word_at(table, path_to(place, Key::Type))
-}
 
 // Has the entry of the list of handlers this name?
 fn has_name(entry: &Value, name: &str) -> bool

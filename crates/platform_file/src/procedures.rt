@@ -6,10 +6,10 @@ ghost use Rattle.platform_file.specs.Handlers.{name_at, has_procedure, procedure
 
 use crate::handlers::name_after;
 use crate::head::procedure_entries;
-use crate::operations::register_at;
 use cpu_table::{Items, ProcedureDef, Text};
 use platform_document::{
-    Key, Path, TablePlace, WalkFault, entry_of, path_to, refuse_others, text_at, word_at,
+    Key, Path, TablePlace, WalkFault, entry_of, path_to, refuse_others, register_at, text_at,
+    word_at,
 };
 use std::alloc::Global;
 use toml::{Table, Value};
