@@ -72,8 +72,12 @@ next await-session-end
 
 // The BSP 0 of 64 processors holds the desks with even numbers: what it takes, and what it gives.
 const EVERY_SECOND: u64 = 0x5555_5555_5555_5555;
-const TAKEN: &str = "1 3 5 7 9 11 13 15 17 19 21 23 25 27 29 31 33 35 37 39 41 43 45 47 49 51 53 55 57 59 61 63 ";
-const GIVEN: &str = "2 4 6 8 10 12 14 16 18 20 22 24 26 28 30 32 34 36 38 40 42 44 46 48 50 52 54 56 58 60 62 64 ";
+
+const TAKEN: &str =
+    "1 3 5 7 9 11 13 15 17 19 21 23 25 27 29 31 33 35 37 39 41 43 45 47 49 51 53 55 57 59 61 63 ";
+
+const GIVEN: &str =
+    "2 4 6 8 10 12 14 16 18 20 22 24 26 28 30 32 34 36 38 40 42 44 46 48 50 52 54 56 58 60 62 64 ";
 
 #[derive(Drop)]
 enum Part {
@@ -213,7 +217,12 @@ fn follow(actor: &mut Actor, line: &str, told: &mut String) -> Result<(), Fail> 
         writeln!(told, "next {next}")?;
         return Ok(());
     }
-    let found = line.split(' ').nth(3).unwrap_or("").parse().unwrap_or(LOCKED);
+    let found = line
+        .split(' ')
+        .nth(3)
+        .unwrap_or("")
+        .parse()
+        .unwrap_or(LOCKED);
     let (line, hand) = event_line(actor, found).ok_or("no event")?;
     let hand = HandText(hand);
     writeln!(told, "{line}{hand}")?;
