@@ -95,6 +95,7 @@ struct Actor {
 }
 
 // What is to change hands.
+#[derive(Clone, Copy)]
 struct HandText(Hand);
 
 impl fmt::Display for HandText {
