@@ -1,2 +1,6 @@
 mod Readings
 mod Lists
+mod Words
+mod Operands
+mod Parts
+mod Operations
