@@ -4,3 +4,4 @@ mod Words
 mod Operands
 mod Parts
 mod Operations
+mod Growth
