@@ -5,3 +5,8 @@ mod Operands
 mod Parts
 mod Operations
 mod Growth
+mod Tables
+mod Names
+mod Head
+mod Whole
+mod Files

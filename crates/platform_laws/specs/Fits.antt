@@ -1,8 +1,9 @@
 -- The ranges and limits of a platform, over its data alone.
-use Rattle.std.specs.Prelude.{◌≡◌, ℕ, ◌<◌, ◌≤◌, nat_le, Bool, true, All, IsTrue, eqb, List, length, Option, Some, None}
-use Rattle.std.specs.List.{IsDistinct, list_all}
+use Rattle.std.specs.Prelude.{◌≡◌, ℕ, ◌≤◌, ◌==◌, nat_lt, nat_le, Bool, true, IsTrue, List, length, Option, Some, None}
+use Rattle.std.specs.List.{list_all}
 use Rattle.smm_base.specs.declared.kinds.IoCause.{IoCause}
 use Rattle.cpu_table.specs.Data.{SetupData}
+use Rattle.cpu_table.specs.Distinct.{are_distinct}
 use Rattle.cpu_table.specs.Layout.{layout_fits}
 use Rattle.cpu_table.specs.Ranges.{events_at_most, policy_fits, smram_fits, waves_fit, handlers_fit, procedures_fit, causes_fit}
 use Rattle.cpu_table.specs.declared.handlers.OpDef.{OpDef}
@@ -36,6 +37,10 @@ port_is_word (Some io) = nat_le io.port 65535
 abbrev pub has_port : CauseAt → Bool
 has_port cause = port_is_word cause.cause.io
 
+-- a number that an integer of a file writes is below 2^63
+abbrev pub is_integer : ℕ → Bool
+is_integer n = nat_lt n 9223372036854775808
+
 -- each part has its range, the areas find room, and a schedule makes few enough events
 pub record Fits (d : SetupData) : Type 0 where
   pub processors_fit : (1 ≤ d.processors) × (d.processors ≤ 64)
@@ -44,8 +49,8 @@ pub record Fits (d : SetupData) : Type 0 where
   pub visits_fit : (1 ≤ d.visits) × (d.visits ≤ 256)
   pub ops_fit : (1 ≤ d.ops) × (d.ops ≤ 4096)
   pub ids_for_each : length d.ids ≡ d.processors
-  pub ids_distinct : IsDistinct eqb d.ids
-  pub ids_small : All (λ id. id < 9223372036854775808) d.ids
+  pub ids_distinct : IsTrue (are_distinct (λ a b. a == b) d.ids)
+  pub ids_small : IsTrue (list_all is_integer d.ids)
   pub smram_fit : IsTrue (smram_fits d.smram)
   pub smram_room : IsTrue (layout_fits d.processors d.smram)
   pub waves_fits : IsTrue (waves_fit d.processors d.visits d.waves)
