@@ -7,7 +7,7 @@ use Rattle.toml.specs.Parse.{parse_document}
 use Rattle.cpu_table.specs.Data.{SetupData}
 use Rattle.platform_file.specs.declared.error.PlatformError.{PlatformError}
 use Rattle.platform_file.specs.declared.error.PlatformError.TheVariants as error
-use Rattle.platform_file.specs.Reading.{Reading}
+use Rattle.platform_document.specs.Reading.{Reading}
 use Rattle.platform_file.specs.Walk.{setup_at, error_of, told, document_of, platform_in, setup_read}
 use Rattle.platform_laws.specs.Platform.{IsDocument, StandsFor}
 use Rattle.platform_laws.proofs.Readings.{err_ok, same_ok}

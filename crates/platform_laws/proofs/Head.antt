@@ -12,17 +12,18 @@ use Rattle.smm_base.specs.declared.kinds.Policy.TheVariants.{Elected, Fixed}
 use Rattle.cpu_table.specs.Distinct.{are_distinct}
 use Rattle.cpu_table.specs.Ranges.{policy_fits}
 use Rattle.cpu_table.specs.declared.setup.Mode.{Mode}
-use Rattle.platform_file.specs.declared.path.Key.{Key}
-use Rattle.platform_file.specs.declared.path.Key.TheVariants as key
-use Rattle.platform_file.specs.declared.fault.WalkFault.TheVariants.{Range}
+use Rattle.platform_document.specs.declared.path.Key.{Key}
+use Rattle.platform_document.specs.declared.path.Key.TheVariants as key
+use Rattle.platform_document.specs.declared.fault.WalkFault.TheVariants.{Range}
 use Rattle.platform_file.specs.declared.head.Head.{Head}
 use Rattle.platform_file.specs.declared.head.Polls.{Polls}
-use Rattle.platform_file.specs.declared.word.PolicyWord.{PolicyWord}
-use Rattle.platform_file.specs.declared.word.PolicyWord.TheVariants as policy
-use Rattle.platform_file.specs.Path.{key_text}
-use Rattle.platform_file.specs.Reading.{Reading, read_then, found_at, list_at, list_of, number_value, number_at, word_at, each, is_known, data_list}
-use Rattle.platform_file.specs.Words.{map_of, policy_of, mode_of}
-use Rattle.platform_file.specs.Head.{greatest, top, policy_by, policy_at, polls_in, polls_at, id_after, ids_of, ids_by, ids_at, keys_by, keys_read}
+use Rattle.platform_document.specs.declared.word.PolicyWord.{PolicyWord}
+use Rattle.platform_document.specs.declared.word.PolicyWord.TheVariants as policy
+use Rattle.platform_document.specs.Path.{key_text}
+use Rattle.platform_document.specs.Reading.{Reading, read_then, found_at, list_at, list_of, number_value, number_at, word_at, each, is_known, data_list}
+use Rattle.platform_document.specs.Words.{map_of, policy_of, mode_of}
+use Rattle.platform_document.specs.Reading.{greatest}
+use Rattle.platform_file.specs.Head.{top, policy_by, policy_at, polls_in, polls_at, id_after, ids_of, ids_by, ids_at, keys_by, keys_read}
 use Rattle.platform_laws.specs.Words.{map_text, policy_text, mode_text}
 use Rattle.platform_laws.specs.Values.{SaysNumber, SaysText, SaysList, SaysOr, IsListOf, EachSays}
 use Rattle.platform_laws.specs.Says.{SaysFixed, names_by, top_names}

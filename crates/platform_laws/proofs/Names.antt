@@ -2,6 +2,7 @@
 use Rattle.std.proofs.Common.{◌≡◌, ℕ, zero, suc, ◌+◌, ◌<◌, ◌≤◌, Bool, true, false, not, ◌&&◌, ◌||◌, nat_lt, List, [], ◌∷◌, length, get_or, map, Option, Some, None, Ok, cond, codes, refl, ap, sym, subst, ◌∙◌, lt-ltb, arith}
 use Rattle.std.specs.Prelude.{slice_get, MatchOption}
 use Rattle.std.specs.List.{list_any, position, position_or_len, prefix_len}
+use Rattle.std.specs.Option.{option_and_then}
 use Rattle.std.specs.Str.{bytes_eq}
 use Rattle.std.proofs.lemmas.Bool.{and_parts, false≢true}
 use Rattle.std.proofs.lemmas.Option.{same_Some, none-some}
@@ -13,7 +14,7 @@ use Rattle.cpu_table.specs.Ranges.{same_text}
 use Rattle.cpu_table.specs.declared.handlers.HandlerDef.{HandlerDef}
 use Rattle.cpu_table.specs.declared.handlers.OpDef.{OpDef}
 use Rattle.cpu_table.specs.declared.handlers.OpDef.TheVariants as op
-use Rattle.platform_file.specs.Reading.{data_list}
+use Rattle.platform_document.specs.Reading.{data_list}
 use Rattle.platform_file.specs.Operations.{text_is, has_name, handler_named}
 use Rattle.platform_laws.specs.Values.{EachSays, IsTableOf, IsListOf}
 use Rattle.platform_laws.specs.Says.{SaysParts, SaysOperation, SaysHandlerDef, IsNameAt}
@@ -29,10 +30,7 @@ names_of handlers = map (λ (h : HandlerDef). h.name) handlers
 
 -- an entry has the name that it says
 entry_has : (R : List ℕ → ℕ → Type 0) (v : Data) (h : HandlerDef) (name : List ℕ) → IsTableOf (λ t. SaysHandlerDef R t h) v → has_name name v ≡ bytes_eq h.name name
-entry_has R v h name (t, there, says) = ap (has_name name) there ∙ ap (λ o. text_is name (as_text o)) says.name_is where
-  abbrev as_text : Option Data → Option (List ℕ)
-  as_text None = None
-  as_text (Some w) = as_str w
+entry_has R v h name (t, there, says) = ap (has_name name) there ∙ ap (λ o. text_is name (option_and_then as_str o)) says.name_is
 
 place_name : (R : List ℕ → ℕ → Type 0) (items : Items) (hs : List HandlerDef) (name : List ℕ) (at : ℕ) (d : Data) → SayHandlers R items hs → at < length (data_list items) → has_name name (get_or (data_list items) at d) ≡ true → slice_get (names_of hs) at ≡ Some name
 place_name R no_items hs name at d says within has = absurd (omega (arith, within))
@@ -75,7 +73,8 @@ first_at R (item v vs) (h ∷ hs) name (suc at) says distinct there =
     let (alone, others) = and_parts (not (list_any (same_name h) hs)) (are_distinct same_name hs) distinct in
     let has = entry_has R v h name says.0 ∙ differs h hs name at (is_false (list_any (same_name h) hs) alone) there in
     let (place, within) = first_at R vs hs name at says.1 others there in
-    (ap (λ b. cond (not b) (1 + position_or_len (has_name name) (data_list vs)) 0) has ∙ (ap (λ n. 1 + n) place ∙ omega arith), omega (arith, within))
+    let next : 1 + at ≡ suc at = omega arith in
+    (ap (λ b. cond (not b) (1 + position_or_len (has_name name) (data_list vs)) 0) has ∙ (ap (λ n. 1 + n) place ∙ next), omega (arith, within))
 
 pub name_found : (R : List ℕ → ℕ → Type 0) (items : Items) (hs : List HandlerDef) → SayHandlers R items hs → are_distinct same_name hs ≡ true → (name : List ℕ) (at : ℕ) → IsNameAt hs name at → IsFound (data_list items) name at
 name_found R items hs says distinct name at there =

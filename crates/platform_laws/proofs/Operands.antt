@@ -11,15 +11,15 @@ use Rattle.cpu_table.specs.Ranges.{is_operand, is_variable}
 use Rattle.cpu_table.specs.declared.handlers.Operand.{Operand}
 use Rattle.cpu_table.specs.declared.handlers.Operand.TheVariants.{Number}
 use Rattle.cpu_table.specs.declared.handlers.Operand.TheVariants as operand
-use Rattle.platform_file.specs.declared.operand.Variable.{Variable}
-use Rattle.platform_file.specs.declared.path.Path.{Path}
-use Rattle.platform_file.specs.declared.fault.WalkFault.TheVariants.{Word, WrongType}
-use Rattle.platform_file.specs.Path.{key_text}
-use Rattle.platform_file.specs.Head.{greatest}
-use Rattle.platform_file.specs.Words.{variable, variable_of, are_digits, number_of_digits, hexadecimal_of, operand_of}
-use Rattle.platform_file.specs.Words as words
-use Rattle.platform_file.specs.Reading.{Reading, read_then, required, number_within}
-use Rattle.platform_file.specs.Operations.{operand_number, operand_text, operand_by, operand_value, operand_at}
+use Rattle.platform_document.specs.declared.operand.Variable.{Variable}
+use Rattle.platform_document.specs.declared.path.Path.{Path}
+use Rattle.platform_document.specs.declared.fault.WalkFault.TheVariants.{Word, WrongType}
+use Rattle.platform_document.specs.Path.{key_text}
+use Rattle.platform_document.specs.Reading.{greatest}
+use Rattle.platform_document.specs.Words.{variable, variable_of, are_digits, number_of_digits, hexadecimal_of, operand_of}
+use Rattle.platform_document.specs.Words as words
+use Rattle.platform_document.specs.Reading.{Reading, read_then, required, number_within}
+use Rattle.platform_document.specs.Operands.{operand_number, operand_text, operand_by, operand_value, operand_at}
 use Rattle.platform_laws.specs.Words.{variable_text, IsHexadecimal}
 use Rattle.platform_laws.specs.Values.{IsOperand, SaysOperand}
 use Rattle.platform_laws.proofs.Readings.{split, joined, same_ok, some_of, of_some, err_ok, integer_is, string_is, within_said, within_read, required_said, required_read}

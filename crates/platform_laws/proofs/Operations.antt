@@ -10,14 +10,16 @@ use Rattle.cpu_table.specs.Ranges.{is_operand, is_variable, op_fits}
 use Rattle.cpu_table.specs.declared.handlers.Operand.{Operand}
 use Rattle.cpu_table.specs.declared.handlers.OpDef.{OpDef}
 use Rattle.cpu_table.specs.declared.handlers.OpDef.TheVariants as op
-use Rattle.platform_file.specs.declared.path.TablePlace.{TablePlace}
-use Rattle.platform_file.specs.declared.path.TablePlace.TheVariants as place
-use Rattle.platform_file.specs.declared.path.Key.TheVariants as key
-use Rattle.platform_file.specs.declared.word.OperationWord.{OperationWord}
-use Rattle.platform_file.specs.declared.word.OperationWord.TheVariants as word
-use Rattle.platform_file.specs.Words.{operation_word}
-use Rattle.platform_file.specs.Reading.{Reading, read_then, path_to, text_at, word_at, entry_of, is_known, and_no_other}
-use Rattle.platform_file.specs.Operations.{cpu_at, register_at, width_at, into_at, kind_at, handler_at, operand_at, set_in, read_in, write_in, start_in, launch_in, check_in, wait_in, alloc_in, free_in, register_in, unregister_in, manage_in, operation_by, operation_keys, operation_as, operation_in, operation_after}
+use Rattle.platform_document.specs.declared.path.TablePlace.{TablePlace}
+use Rattle.platform_document.specs.declared.path.TablePlace.TheVariants as place
+use Rattle.platform_document.specs.declared.path.Key.TheVariants as key
+use Rattle.platform_document.specs.declared.word.OperationWord.{OperationWord}
+use Rattle.platform_document.specs.declared.word.OperationWord.TheVariants as word
+use Rattle.platform_document.specs.Words.{operation_word}
+use Rattle.platform_document.specs.Reading.{Reading, read_then, path_to, text_at, word_at, entry_of, is_known, and_no_other}
+use Rattle.platform_document.specs.CommonKeys.{cpu_at, register_at, width_at, into_at, kind_at}
+use Rattle.platform_file.specs.Operations.{handler_at, set_in, read_in, write_in, start_in, launch_in, check_in, wait_in, alloc_in, free_in, register_in, unregister_in, manage_in, operation_by, operation_keys, operation_as, operation_in, operation_after}
+use Rattle.platform_document.specs.Operands.{operand_at}
 use Rattle.platform_laws.specs.Words.{operation_text}
 use Rattle.platform_laws.specs.Values.{SaysNumber, SaysText, IsTableOf}
 use Rattle.platform_laws.specs.Says.{SaysParts, parts_of, SaysOperation}

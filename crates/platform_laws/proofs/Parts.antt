@@ -7,14 +7,15 @@ use Rattle.smm_base.specs.Register.{register_text, register_number, register_nam
 use Rattle.smm_base.specs.declared.registers.Register.{Register}
 use Rattle.smm_base.specs.declared.kinds.HandlerType.{HandlerType}
 use Rattle.cpu_table.specs.Ranges.{is_variable}
-use Rattle.platform_file.specs.declared.operand.Variable.{Variable}
-use Rattle.platform_file.specs.declared.path.TablePlace.{TablePlace}
-use Rattle.platform_file.specs.declared.path.Key.TheVariants as key
-use Rattle.platform_file.specs.declared.path.Path.{Path}
-use Rattle.platform_file.specs.Path.{key_text}
-use Rattle.platform_file.specs.Words.{variable, variable_of, kind_of}
-use Rattle.platform_file.specs.Reading.{Reading, read_then, path_to, word_at}
-use Rattle.platform_file.specs.Operations.{cpu_at, register_at, width_at, into_at, kind_at, has_name, handler_named, handler_at}
+use Rattle.platform_document.specs.declared.operand.Variable.{Variable}
+use Rattle.platform_document.specs.declared.path.TablePlace.{TablePlace}
+use Rattle.platform_document.specs.declared.path.Key.TheVariants as key
+use Rattle.platform_document.specs.declared.path.Path.{Path}
+use Rattle.platform_document.specs.Path.{key_text}
+use Rattle.platform_document.specs.Words.{variable, variable_of, kind_of}
+use Rattle.platform_document.specs.Reading.{Reading, read_then, path_to, word_at}
+use Rattle.platform_document.specs.CommonKeys.{cpu_at, register_at, width_at, into_at, kind_at}
+use Rattle.platform_file.specs.Operations.{has_name, handler_named, handler_at}
 use Rattle.platform_laws.specs.Words.{variable_text}
 use Rattle.platform_laws.specs.Values.{SaysNumber, SaysText, SaysRegister, SaysKind, SaysHandler}
 use Rattle.platform_laws.proofs.Readings.{split, joined, same_ok, number_said, number_read, word_said, word_read}

@@ -6,13 +6,13 @@ use Rattle.std.specs.Str.{bytes_eq}
 use Rattle.std.proofs.lemmas.Bool.{and_parts, and_from, leb-true}
 use Rattle.std.proofs.lemmas.Option.{same_Some, none-some}
 use Rattle.toml.specs.Data.{Data, integer, string, boolean, array, table, Items, Members, no_members, member, get_member, as_integer, as_str, as_bool, as_array, as_table}
-use Rattle.platform_file.specs.declared.path.TablePlace.{TablePlace}
-use Rattle.platform_file.specs.declared.path.Key.{Key}
-use Rattle.platform_file.specs.declared.path.Path.{Path}
-use Rattle.platform_file.specs.declared.fault.WalkFault.{WalkFault}
-use Rattle.platform_file.specs.declared.fault.WalkFault.TheVariants.{Missing, WrongType, NoTable, Word, Range, Unknown}
-use Rattle.platform_file.specs.Path.{key_text}
-use Rattle.platform_file.specs.Reading.{Reading, read_then, found_at, required, integer_of, text_of, flag_of, table_of, entry_of, data_list, counted, list_of, number_within, number_value, word_of, number_at, text_at, word_at, list_at, is_known, unknown_in, unless_unknown, and_no_other}
+use Rattle.platform_document.specs.declared.path.TablePlace.{TablePlace}
+use Rattle.platform_document.specs.declared.path.Key.{Key}
+use Rattle.platform_document.specs.declared.path.Path.{Path}
+use Rattle.platform_document.specs.declared.fault.WalkFault.{WalkFault}
+use Rattle.platform_document.specs.declared.fault.WalkFault.TheVariants.{Missing, WrongType, NoTable, Word, Range, Unknown}
+use Rattle.platform_document.specs.Path.{key_text}
+use Rattle.platform_document.specs.Reading.{Reading, read_then, found_at, required, integer_of, text_of, flag_of, table_of, entry_of, data_list, counted, list_of, number_within, number_value, word_of, number_at, text_at, word_at, list_at, is_known, unknown_in, unless_unknown, and_no_other}
 use Rattle.platform_laws.specs.Values.{SaysNumber, SaysText, HasOnly}
 
 abbrev ok_value : {A E : Type 0} → A → Result A E → A

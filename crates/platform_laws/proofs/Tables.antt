@@ -21,20 +21,21 @@ use Rattle.cpu_table.specs.declared.setup.CauseAt.{CauseAt}
 use Rattle.cpu_table.specs.declared.setup.Smram.{Smram as Area}
 use Rattle.cpu_table.specs.declared.waves.Arrival.{Arrival}
 use Rattle.cpu_table.specs.declared.waves.Wave.{Wave}
-use Rattle.platform_file.specs.declared.path.TablePlace.{TablePlace}
-use Rattle.platform_file.specs.declared.path.TablePlace.TheVariants.{Smram}
-use Rattle.platform_file.specs.declared.path.TablePlace.TheVariants as place
-use Rattle.platform_file.specs.declared.path.Key.TheVariants as key
-use Rattle.platform_file.specs.declared.path.Path.{Path}
-use Rattle.platform_file.specs.declared.fault.WalkFault.{WalkFault}
-use Rattle.platform_file.specs.declared.fault.WalkFault.TheVariants.{Range, Word, WrongType}
-use Rattle.platform_file.specs.Path.{key_text}
-use Rattle.platform_file.specs.Reading.{Reading, read_then, path_to, found_at, list_at, text_at, word_at, word_of, number_at, flag_of, table_of, entry_of, each, word_after, and_no_other}
-use Rattle.platform_file.specs.Head.{greatest}
-use Rattle.platform_file.specs.Words.{arrival_of, kind_of, answer_of, start_list_of, act_of}
+use Rattle.platform_document.specs.declared.path.TablePlace.{TablePlace}
+use Rattle.platform_document.specs.declared.path.TablePlace.TheVariants.{Smram}
+use Rattle.platform_document.specs.declared.path.TablePlace.TheVariants as place
+use Rattle.platform_document.specs.declared.path.Key.TheVariants as key
+use Rattle.platform_document.specs.declared.path.Path.{Path}
+use Rattle.platform_document.specs.declared.fault.WalkFault.{WalkFault}
+use Rattle.platform_document.specs.declared.fault.WalkFault.TheVariants.{Range, Word, WrongType}
+use Rattle.platform_document.specs.Path.{key_text}
+use Rattle.platform_document.specs.Reading.{Reading, read_then, path_to, found_at, list_at, text_at, word_at, word_of, number_at, flag_of, table_of, entry_of, each, word_after, and_no_other}
+use Rattle.platform_document.specs.Reading.{greatest}
+use Rattle.platform_document.specs.Words.{arrival_of, kind_of, answer_of, start_list_of, act_of}
 use Rattle.platform_file.specs.Area.{size_after, size_at, area_keys, area_in}
 use Rattle.platform_file.specs.Waves.{statuses_at, walks_at, wave_keys, wave_in, wave_after}
-use Rattle.platform_file.specs.Operations.{register_at, operation_after}
+use Rattle.platform_document.specs.CommonKeys.{register_at}
+use Rattle.platform_file.specs.Operations.{operation_after}
 use Rattle.platform_file.specs.Handlers.{name_unless, name_at, has_handler, has_procedure, operations_at, handler_keys, handler_in, handler_after, procedure_keys, procedure_in, procedure_after}
 use Rattle.platform_file.specs.Causes.{one_of, length_at, type_at, on_true, instruction, io_keys, instruction_in, io_of, io_by, io_at, halt_by, halt_at, is_of, visit_after, visit_at, cause_keys, cause_in, cause_next, cause_after}
 use Rattle.platform_laws.specs.Words.{arrival_text, act_text, IsKind, IsStartList}

@@ -15,13 +15,13 @@ use Rattle.cpu_table.specs.declared.setup.CauseAt.{CauseAt}
 use Rattle.cpu_table.specs.declared.waves.Wave.{Wave}
 use Rattle.cpu_table.specs.declared.handlers.HandlerDef.{HandlerDef}
 use Rattle.cpu_table.specs.declared.handlers.ProcedureDef.{ProcedureDef}
-use Rattle.platform_file.specs.declared.path.TablePlace.TheVariants.{Top}
-use Rattle.platform_file.specs.declared.path.Key.TheVariants as key
-use Rattle.platform_file.specs.declared.path.Path.{Path}
-use Rattle.platform_file.specs.declared.fault.WalkFault.TheVariants as fault
+use Rattle.platform_document.specs.declared.path.TablePlace.TheVariants.{Top}
+use Rattle.platform_document.specs.declared.path.Key.TheVariants as key
+use Rattle.platform_document.specs.declared.path.Path.{Path}
+use Rattle.platform_document.specs.declared.fault.WalkFault.TheVariants as fault
 use Rattle.platform_file.specs.declared.head.Head.{Head}
 use Rattle.platform_file.specs.declared.head.Polls.{Polls}
-use Rattle.platform_file.specs.Reading.{Reading, read_then, found_at, optional, table_of, list_of, list_at, entries_of, entries_at, data_list, each, and_no_other}
+use Rattle.platform_document.specs.Reading.{Reading, read_then, found_at, optional, table_of, list_of, list_at, entries_of, entries_at, data_list, each, and_no_other}
 use Rattle.platform_file.specs.Head.{top, smram_at, wave_entries, handler_entries, procedure_entries, cause_entries, keys_by, keys_read, lists_checked, head_at}
 use Rattle.platform_file.specs.Area.{area_in, area_of, area_at, unless_refused, layout_judged}
 use Rattle.platform_file.specs.Waves.{wave_after, waves_at}

@@ -24,12 +24,12 @@ use Rattle.cpu_table.specs.declared.waves.Arrival.{Arrival}
 use Rattle.cpu_table.specs.declared.waves.Arrival.TheVariants.{Prompt, Delayed, Blocked, Absent}
 use Rattle.cpu_table.specs.declared.handlers.Act.{Act}
 use Rattle.cpu_table.specs.declared.handlers.Act.TheVariants.{Get, Put}
-use Rattle.platform_file.specs.declared.operand.Variable.{Variable}
-use Rattle.platform_file.specs.declared.word.PolicyWord.{PolicyWord}
-use Rattle.platform_file.specs.declared.word.PolicyWord.TheVariants as policy
-use Rattle.platform_file.specs.declared.word.OperationWord.{OperationWord}
-use Rattle.platform_file.specs.declared.word.OperationWord.TheVariants as word
-use Rattle.platform_file.specs.Words.{map_of, policy_of, mode_of, arrival_of, answer_of, guid_of, kind_of, start_list_of, act_of, operation_word, variable, variable_of}
+use Rattle.platform_document.specs.declared.operand.Variable.{Variable}
+use Rattle.platform_document.specs.declared.word.PolicyWord.{PolicyWord}
+use Rattle.platform_document.specs.declared.word.PolicyWord.TheVariants as policy
+use Rattle.platform_document.specs.declared.word.OperationWord.{OperationWord}
+use Rattle.platform_document.specs.declared.word.OperationWord.TheVariants as word
+use Rattle.platform_document.specs.Words.{map_of, policy_of, mode_of, arrival_of, answer_of, guid_of, kind_of, start_list_of, act_of, operation_word, variable, variable_of}
 use Rattle.platform_laws.specs.Words.{map_text, mode_text, arrival_text, act_text, variable_text, IsGuid, IsKind, IsStartList}
 
 -- a word that is the next one of a list, or one of the rest
