@@ -94,9 +94,11 @@ polls_said t p is =
 looks_read : (items : Items) (p : Polls) → EachSays IsLooks items (p.t1 ∷ p.t2 ∷ []) → LooksFit p.t1 p.t2 → (polls_in (data_list items) ≡ Ok p) × (length (data_list items) ≡ 2)
 looks_read no_items p says fits = absurd says
 looks_read (item a no_items) p says fits = absurd says.1
-looks_read (item a (item b no_items)) p says (a_low, a_high, b_low, b_high) =
-    (joined (number_value (top key.Polls) 1 4096 a) (λ t1. read_then (number_value (top key.Polls) 1 4096 b) (λ t2. Ok (record { t1 = t1; t2 = t2 }))) p.t1 p (value_read (top key.Polls) 1 4096 a p.t1 says.0 a_low a_high)
-    (joined (number_value (top key.Polls) 1 4096 b) (λ t2. Ok (record { t1 = p.t1; t2 = t2 })) p.t2 p (value_read (top key.Polls) 1 4096 b p.t2 says.1.0 b_low b_high) refl), refl)
+looks_read (item a (item b no_items)) p says (a_low, a_high, b_low, b_high) = (
+  joined (number_value (top key.Polls) 1 4096 a) (λ t1. read_then (number_value (top key.Polls) 1 4096 b) (λ t2. Ok (record { t1 = t1; t2 = t2 }))) p.t1 p (value_read (top key.Polls) 1 4096 a p.t1 says.0 a_low a_high)
+      (joined (number_value (top key.Polls) 1 4096 b) (λ t2. Ok (record { t1 = p.t1; t2 = t2 })) p.t2 p (value_read (top key.Polls) 1 4096 b p.t2 says.1.0 b_low b_high) refl),
+  refl,
+)
 looks_read (item a (item b (item c more))) p says fits = absurd says.1.1
 
 pub polls_read : (t : Members) (p : Polls) → SaysList IsLooks t (codes "polls") (p.t1 ∷ p.t2 ∷ []) → LooksFit p.t1 p.t2 → polls_at t ≡ Ok p
@@ -214,37 +216,39 @@ keys_said t h is =
     let (ops_say, ops_low, ops_high) = number_said (top key.Ops) 1 4096 t ops ops_is in
     let (ids_say, ids_there) = ids_said n (found_at (top key.Ids) t) ids n_high ids_is in
     let first : version ≡ 1 = omega (arith, version_low, version_high) in
-    subst (λ x. KeysSay t x × KeysFit x) (same_ok (head_of n kind chosen mode polls visits ops ids) h rest8)
-    (record {
-      version_is = subst (λ k. SaysNumber t (codes "version") k) first version_says;
-      processors_is = n_says;
-      map_is = map_says;
-      policy_is = policy_says;
-      fixed_is = fixed_says;
-      mode_is = mode_says;
-      polls_are = polls_say;
-      visits_is = visits_say;
-      ops_is = ops_say;
-      ids_are = ids_say;
-    }, record {
-      processors_fit = (n_low, n_high);
-      policy_fit = policy_there;
-      polls_fit = polls_there;
-      visits_fit = (visits_low, visits_high);
-      ops_fit = (ops_low, ops_high);
-      ids_fit = ids_there;
-    })
+    subst (λ x. KeysSay t x × KeysFit x) (same_ok (head_of n kind chosen mode polls visits ops ids) h rest8) (
+      record {
+        version_is = subst (λ k. SaysNumber t (codes "version") k) first version_says;
+        processors_is = n_says;
+        map_is = map_says;
+        policy_is = policy_says;
+        fixed_is = fixed_says;
+        mode_is = mode_says;
+        polls_are = polls_say;
+        visits_is = visits_say;
+        ops_is = ops_say;
+        ids_are = ids_say;
+      },
+      record {
+        processors_fit = (n_low, n_high);
+        policy_fit = policy_there;
+        polls_fit = polls_there;
+        visits_fit = (visits_low, visits_high);
+        ops_fit = (ops_low, ops_high);
+        ids_fit = ids_there;
+      },
+    )
 
 pub keys_are_read : (t : Members) (h : Head) → KeysSay t h → KeysFit h → keys_read t ≡ Ok h
 keys_are_read t h says fits =
-    joined (number_at (top key.Version) 1 1 t) (λ version. read_then (number_at (top key.Processors) 1 64 t) (λ n. read_then (word_at (top key.Map) map_of t) (λ kind. read_then (policy_at n t) (λ chosen. read_then (word_at (top key.Mode) mode_of t) (λ mode. read_then (polls_at t) (λ polls. read_then (number_at (top key.Visits) 1 256 t) (λ visits. read_then (number_at (top key.Ops) 1 4096 t) (λ ops. read_then (ids_at n t) (λ ids. Ok (head_of n kind chosen mode polls visits ops ids)))))))))) (1) (h) (number_read (top key.Version) 1 1 t 1 says.version_is (omega arith) (omega arith)) 
-    (joined (number_at (top key.Processors) 1 64 t) (λ n. read_then (word_at (top key.Map) map_of t) (λ kind. read_then (policy_at n t) (λ chosen. read_then (word_at (top key.Mode) mode_of t) (λ mode. read_then (polls_at t) (λ polls. read_then (number_at (top key.Visits) 1 256 t) (λ visits. read_then (number_at (top key.Ops) 1 4096 t) (λ ops. read_then (ids_at n t) (λ ids. Ok (head_of n kind chosen mode polls visits ops ids))))))))) (h.processors) (h) (number_read (top key.Processors) 1 64 t h.processors says.processors_is fits.processors_fit.0 fits.processors_fit.1) 
-    (joined (word_at (top key.Map) map_of t) (λ kind. read_then (policy_at h.processors t) (λ chosen. read_then (word_at (top key.Mode) mode_of t) (λ mode. read_then (polls_at t) (λ polls. read_then (number_at (top key.Visits) 1 256 t) (λ visits. read_then (number_at (top key.Ops) 1 4096 t) (λ ops. read_then (ids_at h.processors t) (λ ids. Ok (head_of h.processors kind chosen mode polls visits ops ids)))))))) (h.kind) (h) (word_read (top key.Map) map_of t h.kind (map_text h.kind) says.map_is (map_read h.kind)) 
-    (joined (policy_at h.processors t) (λ chosen. read_then (word_at (top key.Mode) mode_of t) (λ mode. read_then (polls_at t) (λ polls. read_then (number_at (top key.Visits) 1 256 t) (λ visits. read_then (number_at (top key.Ops) 1 4096 t) (λ ops. read_then (ids_at h.processors t) (λ ids. Ok (head_of h.processors h.kind chosen mode polls visits ops ids))))))) (h.policy) (h) (policy_read h.processors t h.policy says.policy_is says.fixed_is fits.policy_fit) 
-    (joined (word_at (top key.Mode) mode_of t) (λ mode. read_then (polls_at t) (λ polls. read_then (number_at (top key.Visits) 1 256 t) (λ visits. read_then (number_at (top key.Ops) 1 4096 t) (λ ops. read_then (ids_at h.processors t) (λ ids. Ok (head_of h.processors h.kind h.policy mode polls visits ops ids)))))) (h.mode) (h) (word_read (top key.Mode) mode_of t h.mode (mode_text h.mode) says.mode_is (mode_read h.mode)) 
-    (joined (polls_at t) (λ polls. read_then (number_at (top key.Visits) 1 256 t) (λ visits. read_then (number_at (top key.Ops) 1 4096 t) (λ ops. read_then (ids_at h.processors t) (λ ids. Ok (head_of h.processors h.kind h.policy h.mode polls visits ops ids))))) (h.polls) (h) (polls_read t h.polls says.polls_are fits.polls_fit) 
-    (joined (number_at (top key.Visits) 1 256 t) (λ visits. read_then (number_at (top key.Ops) 1 4096 t) (λ ops. read_then (ids_at h.processors t) (λ ids. Ok (head_of h.processors h.kind h.policy h.mode h.polls visits ops ids)))) (h.visits) (h) (number_read (top key.Visits) 1 256 t h.visits says.visits_is fits.visits_fit.0 fits.visits_fit.1) 
-    (joined (number_at (top key.Ops) 1 4096 t) (λ ops. read_then (ids_at h.processors t) (λ ids. Ok (head_of h.processors h.kind h.policy h.mode h.polls h.visits ops ids))) (h.ops) (h) (number_read (top key.Ops) 1 4096 t h.ops says.ops_is fits.ops_fit.0 fits.ops_fit.1) 
+    joined (number_at (top key.Version) 1 1 t) (λ version. read_then (number_at (top key.Processors) 1 64 t) (λ n. read_then (word_at (top key.Map) map_of t) (λ kind. read_then (policy_at n t) (λ chosen. read_then (word_at (top key.Mode) mode_of t) (λ mode. read_then (polls_at t) (λ polls. read_then (number_at (top key.Visits) 1 256 t) (λ visits. read_then (number_at (top key.Ops) 1 4096 t) (λ ops. read_then (ids_at n t) (λ ids. Ok (head_of n kind chosen mode polls visits ops ids)))))))))) (1) (h) (number_read (top key.Version) 1 1 t 1 says.version_is (omega arith) (omega arith))
+    (joined (number_at (top key.Processors) 1 64 t) (λ n. read_then (word_at (top key.Map) map_of t) (λ kind. read_then (policy_at n t) (λ chosen. read_then (word_at (top key.Mode) mode_of t) (λ mode. read_then (polls_at t) (λ polls. read_then (number_at (top key.Visits) 1 256 t) (λ visits. read_then (number_at (top key.Ops) 1 4096 t) (λ ops. read_then (ids_at n t) (λ ids. Ok (head_of n kind chosen mode polls visits ops ids))))))))) (h.processors) (h) (number_read (top key.Processors) 1 64 t h.processors says.processors_is fits.processors_fit.0 fits.processors_fit.1)
+    (joined (word_at (top key.Map) map_of t) (λ kind. read_then (policy_at h.processors t) (λ chosen. read_then (word_at (top key.Mode) mode_of t) (λ mode. read_then (polls_at t) (λ polls. read_then (number_at (top key.Visits) 1 256 t) (λ visits. read_then (number_at (top key.Ops) 1 4096 t) (λ ops. read_then (ids_at h.processors t) (λ ids. Ok (head_of h.processors kind chosen mode polls visits ops ids)))))))) (h.kind) (h) (word_read (top key.Map) map_of t h.kind (map_text h.kind) says.map_is (map_read h.kind))
+    (joined (policy_at h.processors t) (λ chosen. read_then (word_at (top key.Mode) mode_of t) (λ mode. read_then (polls_at t) (λ polls. read_then (number_at (top key.Visits) 1 256 t) (λ visits. read_then (number_at (top key.Ops) 1 4096 t) (λ ops. read_then (ids_at h.processors t) (λ ids. Ok (head_of h.processors h.kind chosen mode polls visits ops ids))))))) (h.policy) (h) (policy_read h.processors t h.policy says.policy_is says.fixed_is fits.policy_fit)
+    (joined (word_at (top key.Mode) mode_of t) (λ mode. read_then (polls_at t) (λ polls. read_then (number_at (top key.Visits) 1 256 t) (λ visits. read_then (number_at (top key.Ops) 1 4096 t) (λ ops. read_then (ids_at h.processors t) (λ ids. Ok (head_of h.processors h.kind h.policy mode polls visits ops ids)))))) (h.mode) (h) (word_read (top key.Mode) mode_of t h.mode (mode_text h.mode) says.mode_is (mode_read h.mode))
+    (joined (polls_at t) (λ polls. read_then (number_at (top key.Visits) 1 256 t) (λ visits. read_then (number_at (top key.Ops) 1 4096 t) (λ ops. read_then (ids_at h.processors t) (λ ids. Ok (head_of h.processors h.kind h.policy h.mode polls visits ops ids))))) (h.polls) (h) (polls_read t h.polls says.polls_are fits.polls_fit)
+    (joined (number_at (top key.Visits) 1 256 t) (λ visits. read_then (number_at (top key.Ops) 1 4096 t) (λ ops. read_then (ids_at h.processors t) (λ ids. Ok (head_of h.processors h.kind h.policy h.mode h.polls visits ops ids)))) (h.visits) (h) (number_read (top key.Visits) 1 256 t h.visits says.visits_is fits.visits_fit.0 fits.visits_fit.1)
+    (joined (number_at (top key.Ops) 1 4096 t) (λ ops. read_then (ids_at h.processors t) (λ ids. Ok (head_of h.processors h.kind h.policy h.mode h.polls h.visits ops ids))) (h.ops) (h) (number_read (top key.Ops) 1 4096 t h.ops says.ops_is fits.ops_fit.0 fits.ops_fit.1)
     (joined (ids_at h.processors t) (λ ids. Ok (head_of h.processors h.kind h.policy h.mode h.polls h.visits h.ops ids)) (h.ids) (h) (ids_read h.processors (found_at (top key.Ids) t) h.ids says.ids_are fits.ids_fit) (refl)))))))))
 
 -- the names of the top table

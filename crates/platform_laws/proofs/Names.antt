@@ -105,14 +105,17 @@ pub handler_as : (R S : List ℕ → ℕ → Type 0) → ((name : List ℕ) (at 
 handler_as R S also v h (t, there, says) =
     let w = says.ops_are.0 in
     let member = says.ops_are.1 in
-    let (items, kind, each_says) = says.ops_are.2 in
-    (t, there, record {
-      name_is = says.name_is;
-      type_is = says.type_is;
-      answer_is = says.answer_is;
-      ops_are = (w, member, (items, kind, each_weaker (λ v o. IsTableOf (λ t. SaysOperation S t o) v) (λ v o. IsTableOf (λ t. SaysOperation R t o) v) (operation_as R S also) items h.ops each_says));
-      only = says.only;
-    })
+    let (items, kind, each_says) = says.ops_are.2 in (
+      t,
+      there,
+      record {
+        name_is = says.name_is;
+        type_is = says.type_is;
+        answer_is = says.answer_is;
+        ops_are = (w, member, (items, kind, each_weaker (λ v o. IsTableOf (λ t. SaysOperation S t o) v) (λ v o. IsTableOf (λ t. SaysOperation R t o) v) (operation_as R S also) items h.ops each_says));
+        only = says.only;
+      },
+    )
 
 pub handlers_as : (R S : List ℕ → ℕ → Type 0) → ((name : List ℕ) (at : ℕ) → R name at → S name at) → (items : Items) (hs : List HandlerDef) → SayHandlers R items hs → SayHandlers S items hs
 handlers_as R S also items hs says = each_weaker (λ v h. IsTableOf (λ t. SaysHandlerDef S t h) v) (λ v h. IsTableOf (λ t. SaysHandlerDef R t h) v) (handler_as R S also) items hs says

@@ -112,9 +112,9 @@ area_read t a says fits =
     let base_high : a.base ≤ greatest = omega (arith, end_below) in
     let tile_high : a.tile ≤ greatest = omega (arith, tile_below) in
     let code_high : a.code ≤ greatest = omega (arith, code_below) in
-    joined (number_at (path_to Smram key.Base) 0 greatest t) (λ base. read_then (size_at base t) (λ size. read_then (number_at (path_to Smram key.Tile) 0 greatest t) (λ tile. read_then (number_at (path_to Smram key.Code) 0 greatest t) (λ code. and_no_other Smram area_keys t (area base size tile code))))) (a.base) (a) (number_read (path_to Smram key.Base) 0 greatest t a.base says.base_is (omega arith) base_high) 
-    (joined (size_at a.base t) (λ size. read_then (number_at (path_to Smram key.Tile) 0 greatest t) (λ tile. read_then (number_at (path_to Smram key.Code) 0 greatest t) (λ code. and_no_other Smram area_keys t (area a.base size tile code)))) (a.size) (a) (size_read a.base t a.size says.size_is (leb-true 1 a.size low) (leb-true a.size 8388608 high) ends) 
-    (joined (number_at (path_to Smram key.Tile) 0 greatest t) (λ tile. read_then (number_at (path_to Smram key.Code) 0 greatest t) (λ code. and_no_other Smram area_keys t (area a.base a.size tile code))) (a.tile) (a) (number_read (path_to Smram key.Tile) 0 greatest t a.tile says.tile_is (omega arith) tile_high) 
+    joined (number_at (path_to Smram key.Base) 0 greatest t) (λ base. read_then (size_at base t) (λ size. read_then (number_at (path_to Smram key.Tile) 0 greatest t) (λ tile. read_then (number_at (path_to Smram key.Code) 0 greatest t) (λ code. and_no_other Smram area_keys t (area base size tile code))))) (a.base) (a) (number_read (path_to Smram key.Base) 0 greatest t a.base says.base_is (omega arith) base_high)
+    (joined (size_at a.base t) (λ size. read_then (number_at (path_to Smram key.Tile) 0 greatest t) (λ tile. read_then (number_at (path_to Smram key.Code) 0 greatest t) (λ code. and_no_other Smram area_keys t (area a.base size tile code)))) (a.size) (a) (size_read a.base t a.size says.size_is (leb-true 1 a.size low) (leb-true a.size 8388608 high) ends)
+    (joined (number_at (path_to Smram key.Tile) 0 greatest t) (λ tile. read_then (number_at (path_to Smram key.Code) 0 greatest t) (λ code. and_no_other Smram area_keys t (area a.base a.size tile code))) (a.tile) (a) (number_read (path_to Smram key.Tile) 0 greatest t a.tile says.tile_is (omega arith) tile_high)
     (joined (number_at (path_to Smram key.Code) 0 greatest t) (λ code. and_no_other Smram area_keys t (area a.base a.size a.tile code)) (a.code) (a) (number_read (path_to Smram key.Code) 0 greatest t a.code says.code_is (omega arith) code_high) (others_read Smram area_keys (codes "base" ∷ codes "size" ∷ codes "tile" ∷ codes "code" ∷ []) (λ name. refl) t a says.only))))
 
 -- the waves
@@ -154,7 +154,7 @@ wave_read n at t w says fits =
     let count = eqb-true (length w.status) n for_each in
     let low : n ≤ length w.status = omega (arith, count) in
     let high : length w.status ≤ n = omega (arith, count) in
-    joined (statuses_at n (path_to at key.Status) t) (λ status. read_then (walks_at (path_to at key.Manage) t) (λ manage. and_no_other at wave_keys t (wave status manage))) (w.status) (w) (list_each_read (path_to at key.Status) n n t (word_after (path_to at key.Status) arrival_of) (λ v x. v ≡ string (arrival_text x)) (λ d x. Unit {0}) (arrival_back (path_to at key.Status)) w.status says.status_is low high (each_any w.status [])) 
+    joined (statuses_at n (path_to at key.Status) t) (λ status. read_then (walks_at (path_to at key.Manage) t) (λ manage. and_no_other at wave_keys t (wave status manage))) (w.status) (w) (list_each_read (path_to at key.Status) n n t (word_after (path_to at key.Status) arrival_of) (λ v x. v ≡ string (arrival_text x)) (λ d x. Unit {0}) (arrival_back (path_to at key.Status)) w.status says.status_is low high (each_any w.status []))
     (joined (walks_at (path_to at key.Manage) t) (λ manage. and_no_other at wave_keys t (wave w.status manage)) (w.manage) (w) (list_each_read (path_to at key.Manage) 0 16 t (word_after (path_to at key.Manage) kind_of) (λ v x. (text : List ℕ) × (v ≡ string text) × IsKind text x) (λ d x. Unit {0}) (kind_back (path_to at key.Manage)) w.manage says.manage_is (omega arith) (leb-true (length w.manage) 16 few) (each_any w.manage [])) (others_read at wave_keys (codes "status" ∷ codes "manage" ∷ []) (λ name. refl) t w says.only))
 
 pub entry_wave_said : (n : ℕ) (done : List Wave) (v : Data) (w : Wave) → wave_after n done v ≡ Ok w → IsTableOf (λ t. SaysWave t w) v × (wave_fits n w ≡ true)
@@ -215,9 +215,9 @@ handler_read entries done at t h says (fits, words, fresh) =
     let (second, few) = and_parts (is_name h.name && is_answer h.answer) (nat_le (length h.ops) 64) first in
     let (named, answers) = and_parts (is_name h.name) (is_answer h.answer) second in
     let (kind_text, kind_says, kind_written) = says.type_is in
-    joined (name_at (has_handler done) (path_to (place.Handler at) key.Name) t) (λ name. read_then (word_at (path_to (place.Handler at) key.Type) start_list_of t) (λ kind. read_then (word_at (path_to (place.Handler at) key.Answer) answer_of t) (λ answer. read_then (operations_at entries at t) (λ ops. and_no_other (place.Handler at) handler_keys t (handler name kind answer ops))))) (h.name) (h) (name_read (has_handler done) (path_to (place.Handler at) key.Name) t h.name says.name_is named fresh) 
-    (joined (word_at (path_to (place.Handler at) key.Type) start_list_of t) (λ kind. read_then (word_at (path_to (place.Handler at) key.Answer) answer_of t) (λ answer. read_then (operations_at entries at t) (λ ops. and_no_other (place.Handler at) handler_keys t (handler h.name kind answer ops)))) (h.kind) (h) (word_read (path_to (place.Handler at) key.Type) start_list_of t h.kind kind_text kind_says (start_list_read kind_text h.kind kind_written)) 
-    (joined (word_at (path_to (place.Handler at) key.Answer) answer_of t) (λ answer. read_then (operations_at entries at t) (λ ops. and_no_other (place.Handler at) handler_keys t (handler h.name h.kind answer ops))) (h.answer) (h) (word_read (path_to (place.Handler at) key.Answer) answer_of t h.answer (status_text h.answer) says.answer_is (answer_read h.answer answers)) 
+    joined (name_at (has_handler done) (path_to (place.Handler at) key.Name) t) (λ name. read_then (word_at (path_to (place.Handler at) key.Type) start_list_of t) (λ kind. read_then (word_at (path_to (place.Handler at) key.Answer) answer_of t) (λ answer. read_then (operations_at entries at t) (λ ops. and_no_other (place.Handler at) handler_keys t (handler name kind answer ops))))) (h.name) (h) (name_read (has_handler done) (path_to (place.Handler at) key.Name) t h.name says.name_is named fresh)
+    (joined (word_at (path_to (place.Handler at) key.Type) start_list_of t) (λ kind. read_then (word_at (path_to (place.Handler at) key.Answer) answer_of t) (λ answer. read_then (operations_at entries at t) (λ ops. and_no_other (place.Handler at) handler_keys t (handler h.name kind answer ops)))) (h.kind) (h) (word_read (path_to (place.Handler at) key.Type) start_list_of t h.kind kind_text kind_says (start_list_read kind_text h.kind kind_written))
+    (joined (word_at (path_to (place.Handler at) key.Answer) answer_of t) (λ answer. read_then (operations_at entries at t) (λ ops. and_no_other (place.Handler at) handler_keys t (handler h.name h.kind answer ops))) (h.answer) (h) (word_read (path_to (place.Handler at) key.Answer) answer_of t h.answer (status_text h.answer) says.answer_is (answer_read h.answer answers))
     (joined (operations_at entries at t) (λ ops. and_no_other (place.Handler at) handler_keys t (handler h.name h.kind h.answer ops)) (h.ops) (h) (list_each_read (path_to (place.Handler at) key.Ops) 0 64 t (operation_after entries at) (λ v o. IsTableOf (λ entry. SaysOperation (IsFound entries) entry o) v) (λ d o. OperationFits (length entries) o) (entry_operation_read entries at) h.ops says.ops_are (omega arith) (leb-true (length h.ops) 64 few) (each_both (op_fits (length entries)) names_word h.ops [] all_fit words)) (others_read (place.Handler at) handler_keys (codes "name" ∷ codes "type" ∷ codes "answer" ∷ codes "ops" ∷ []) (λ name. refl) t h says.only))))
 
 pub entry_handler_said : (entries : List Data) (done : List HandlerDef) (v : Data) (h : HandlerDef) → handler_after entries done v ≡ Ok h → IsTableOf (λ t. SaysHandlerDef (IsFound entries) t h) v × HandlerFits (length entries) done h
@@ -253,8 +253,8 @@ procedure_said done at t p is =
 procedure_read : (done : List ProcedureDef) (at : TablePlace) (t : Members) (p : ProcedureDef) → SaysProcedure t p → ProcedureFits done p → procedure_in done at t ≡ Ok p
 procedure_read done at t p says (fits, also, fresh) =
     let (named, reg_there) = and_parts (is_name p.name) (is_register_number p.reg) fits in
-    joined (name_at (has_procedure done) (path_to at key.Name) t) (λ name. read_then (word_at (path_to at key.Act) act_of t) (λ act. read_then (register_at at t) (λ reg. and_no_other at procedure_keys t (procedure name act reg)))) (p.name) (p) (name_read (has_procedure done) (path_to at key.Name) t p.name says.name_is named fresh) 
-    (joined (word_at (path_to at key.Act) act_of t) (λ act. read_then (register_at at t) (λ reg. and_no_other at procedure_keys t (procedure p.name act reg))) (p.act) (p) (word_read (path_to at key.Act) act_of t p.act (act_text p.act) says.act_is (act_read p.act)) 
+    joined (name_at (has_procedure done) (path_to at key.Name) t) (λ name. read_then (word_at (path_to at key.Act) act_of t) (λ act. read_then (register_at at t) (λ reg. and_no_other at procedure_keys t (procedure name act reg)))) (p.name) (p) (name_read (has_procedure done) (path_to at key.Name) t p.name says.name_is named fresh)
+    (joined (word_at (path_to at key.Act) act_of t) (λ act. read_then (register_at at t) (λ reg. and_no_other at procedure_keys t (procedure p.name act reg))) (p.act) (p) (word_read (path_to at key.Act) act_of t p.act (act_text p.act) says.act_is (act_read p.act))
     (joined (register_at at t) (λ reg. and_no_other at procedure_keys t (procedure p.name p.act reg)) (p.reg) (p) (reg_read at t p.reg says.reg_is) (others_read at procedure_keys (codes "name" ∷ codes "act" ∷ codes "reg" ∷ []) (λ name. refl) t p says.only)))
 
 pub entry_procedure_said : (done : List ProcedureDef) (v : Data) (p : ProcedureDef) → procedure_after done v ≡ Ok p → IsTableOf (λ t. SaysProcedure t p) v × ProcedureFits done p
@@ -307,15 +307,17 @@ instruction_said at t io is =
     let (port_says, port_low, port_high) = number_said (path_to at key.Port) 0 65535 t port port_is in
     let (length_says, length_there) = chosen_said (path_to at key.Length) is_io_length t length length_is in
     let (kind_says, kind_there) = chosen_said (path_to at key.Type) is_io_type t kind kind_is in
-    let (same, others) = others_said at io_keys (codes "port" ∷ codes "length" ∷ codes "type" ∷ []) (λ name. refl) t (instruction port length kind) io rest2 in
-    (record { port = port; length = length; kind = kind; length_is_valid = length_there; kind_is_valid = kind_there },
-    sym same ∙ instruction_is port length kind length_there kind_there,
-    record { port_is = port_says; length_is = length_says; type_is = kind_says; only = others }, le-leb port 65535 port_high)
+    let (same, others) = others_said at io_keys (codes "port" ∷ codes "length" ∷ codes "type" ∷ []) (λ name. refl) t (instruction port length kind) io rest2 in (
+      record { port = port; length = length; kind = kind; length_is_valid = length_there; kind_is_valid = kind_there },
+      sym same ∙ instruction_is port length kind length_there kind_there,
+      record { port_is = port_says; length_is = length_says; type_is = kind_says; only = others },
+      le-leb port 65535 port_high,
+    )
 
 instruction_read : (at : TablePlace) (t : Members) (io : IoCause) → SaysIo t io → nat_le io.port 65535 ≡ true → instruction_in at t ≡ Ok (Some io)
 instruction_read at t io says small =
-    joined (number_at (path_to at key.Port) 0 65535 t) (λ port. read_then (length_at (path_to at key.Length) t) (λ length. read_then (type_at (path_to at key.Type) t) (λ kind. and_no_other at io_keys t (instruction port length kind)))) (io.port) (Some io) (number_read (path_to at key.Port) 0 65535 t io.port says.port_is (omega arith) (leb-true io.port 65535 small)) 
-    (joined (length_at (path_to at key.Length) t) (λ length. read_then (type_at (path_to at key.Type) t) (λ kind. and_no_other at io_keys t (instruction io.port length kind))) (io.length) (Some io) (chosen_read (path_to at key.Length) is_io_length t io.length says.length_is (length_below io.length io.length_is_valid) io.length_is_valid) 
+    joined (number_at (path_to at key.Port) 0 65535 t) (λ port. read_then (length_at (path_to at key.Length) t) (λ length. read_then (type_at (path_to at key.Type) t) (λ kind. and_no_other at io_keys t (instruction port length kind)))) (io.port) (Some io) (number_read (path_to at key.Port) 0 65535 t io.port says.port_is (omega arith) (leb-true io.port 65535 small))
+    (joined (length_at (path_to at key.Length) t) (λ length. read_then (type_at (path_to at key.Type) t) (λ kind. and_no_other at io_keys t (instruction io.port length kind))) (io.length) (Some io) (chosen_read (path_to at key.Length) is_io_length t io.length says.length_is (length_below io.length io.length_is_valid) io.length_is_valid)
     (joined (type_at (path_to at key.Type) t) (λ kind. and_no_other at io_keys t (instruction io.port io.length kind)) (io.kind) (Some io) (chosen_read (path_to at key.Type) is_io_type t io.kind says.type_is (type_below io.kind io.kind_is_valid) io.kind_is_valid) (others_read at io_keys (codes "port" ∷ codes "length" ∷ codes "type" ∷ []) (λ name. refl) t (instruction io.port io.length io.kind) says.only ∙ ap Ok (instruction_is io.port io.length io.kind io.length_is_valid io.kind_is_valid))))
 
 io_said : (at : ℕ) (o : Option Data) (io : Option IoCause) → io_by at o ≡ Ok io → MatchOption o (io ≡ None) (SaysOption SaysIo io) × (port_is_word io ≡ true)
@@ -384,9 +386,9 @@ cause_read n visits done at t c says (fits, small, fresh) =
     let (low, high) = and_parts (nat_le 1 c.visit) (nat_le c.visit visits) between in
     let cpu_below = ltb-true c.cpu n below in
     let cpu_high : c.cpu ≤ n - 1 = omega (arith, cpu_below) in
-    joined (number_at (path_to (place.Cause at) key.Cpu) 0 (n - 1) t) (λ cpu. read_then (visit_at done visits (path_to (place.Cause at) key.Visit) cpu t) (λ visit. read_then (halt_at at t) (λ halt. read_then (io_at at t) (λ io. and_no_other (place.Cause at) cause_keys t (cause cpu visit halt io))))) (c.cpu) (c) (number_read (path_to (place.Cause at) key.Cpu) 0 (n - 1) t c.cpu says.cpu_is (omega arith) cpu_high) 
-    (joined (visit_at done visits (path_to (place.Cause at) key.Visit) c.cpu t) (λ visit. read_then (halt_at at t) (λ halt. read_then (io_at at t) (λ io. and_no_other (place.Cause at) cause_keys t (cause c.cpu visit halt io)))) (c.visit) (c) (fresh_read done visits (path_to (place.Cause at) key.Visit) c.cpu t c.visit says.visit_is (leb-true 1 c.visit low) (leb-true c.visit visits high) fresh) 
-    (joined (halt_at at t) (λ halt. read_then (io_at at t) (λ io. and_no_other (place.Cause at) cause_keys t (cause c.cpu c.visit halt io))) (c.cause.halt) (c) (halt_read at (found_at (path_to (place.Cause at) key.Halt) t) c.cause.halt says.halt_is) 
+    joined (number_at (path_to (place.Cause at) key.Cpu) 0 (n - 1) t) (λ cpu. read_then (visit_at done visits (path_to (place.Cause at) key.Visit) cpu t) (λ visit. read_then (halt_at at t) (λ halt. read_then (io_at at t) (λ io. and_no_other (place.Cause at) cause_keys t (cause cpu visit halt io))))) (c.cpu) (c) (number_read (path_to (place.Cause at) key.Cpu) 0 (n - 1) t c.cpu says.cpu_is (omega arith) cpu_high)
+    (joined (visit_at done visits (path_to (place.Cause at) key.Visit) c.cpu t) (λ visit. read_then (halt_at at t) (λ halt. read_then (io_at at t) (λ io. and_no_other (place.Cause at) cause_keys t (cause c.cpu visit halt io)))) (c.visit) (c) (fresh_read done visits (path_to (place.Cause at) key.Visit) c.cpu t c.visit says.visit_is (leb-true 1 c.visit low) (leb-true c.visit visits high) fresh)
+    (joined (halt_at at t) (λ halt. read_then (io_at at t) (λ io. and_no_other (place.Cause at) cause_keys t (cause c.cpu c.visit halt io))) (c.cause.halt) (c) (halt_read at (found_at (path_to (place.Cause at) key.Halt) t) c.cause.halt says.halt_is)
     (joined (io_at at t) (λ io. and_no_other (place.Cause at) cause_keys t (cause c.cpu c.visit c.cause.halt io)) (c.cause.io) (c) (io_read at (found_at (path_to (place.Cause at) key.Io) t) c.cause.io says.io_is small) (others_read (place.Cause at) cause_keys (codes "cpu" ∷ codes "visit" ∷ codes "halt" ∷ codes "io" ∷ []) (λ name. refl) t c says.only))))
 
 pub entry_cause_said : (n visits : ℕ) → 1 ≤ n → (done : List CauseAt) (v : Data) (c : CauseAt) → cause_after n visits done v ≡ Ok c → IsTableOf (λ t. SaysCause t c) v × CauseFits n visits done c

@@ -99,10 +99,12 @@ limits_read h s few room =
 waves_said : (n visits : ℕ) (t : Members) (ws : List Wave) → waves_at n visits t ≡ Ok ws →
     ((v : Data) × (get_member (codes "wave") t ≡ Some v) × IsListOf (λ v w. IsTableOf (λ e. SaysWave e w) v) ws v) × (waves_fit n visits ws ≡ true)
 waves_said n visits t ws is =
-    let (says, low, high, fits) = list_each_said (top key.Wave) 1 visits t (wave_after n) (λ v w. IsTableOf (λ e. SaysWave e w) v) (λ d w. wave_fits n w ≡ true) (entry_wave_said n) ws is in
-    (says, and_from (is_between 1 visits (length ws)) (list_all (wave_fits n) ws)
-    (and_from (nat_le 1 (length ws)) (nat_le (length ws) visits) (le-leb 1 (length ws) low) (le-leb (length ws) visits high))
-    (each_all (λ d w. wave_fits n w ≡ true) (wave_fits n) (λ d w f. f) ws [] fits))
+    let (says, low, high, fits) = list_each_said (top key.Wave) 1 visits t (wave_after n) (λ v w. IsTableOf (λ e. SaysWave e w) v) (λ d w. wave_fits n w ≡ true) (entry_wave_said n) ws is in (
+      says,
+      and_from (is_between 1 visits (length ws)) (list_all (wave_fits n) ws)
+          (and_from (nat_le 1 (length ws)) (nat_le (length ws) visits) (le-leb 1 (length ws) low) (le-leb (length ws) visits high))
+          (each_all (λ d w. wave_fits n w ≡ true) (wave_fits n) (λ d w f. f) ws [] fits),
+    )
 
 -- the handlers
 same_items : (v : Data) (a b : Items) → v ≡ array a → v ≡ array b → a ≡ b
@@ -143,11 +145,12 @@ handlers_said t hs is =
     let n = length a.entries in
     let all_fit : list_all (handler_fits n) hs ≡ true = each_all (λ d h. HandlerFits n d h) (handler_fits n) (λ d h f. f.0) hs [] a.fits in
     let words : list_all names_words hs ≡ true = each_all (λ d h. HandlerFits n d h) names_words (λ d h f. f.1) hs [] a.fits in
-    let distinct : are_distinct (λ a b. same_text a.name b.name) hs ≡ true = each_distinct (λ d h. HandlerFits n d h) (λ a b. same_text a.name b.name) (λ d h f. f.2) hs [] refl a.fits in
-    (named_said (found_at (top key.Handler) t) a.entries hs a.listed a.says,
-    and_from (nat_le (length hs) 64 && list_all (handler_fits (length hs)) hs) (are_distinct (λ a b. same_text a.name b.name) hs)
-    (and_from (nat_le (length hs) 64) (list_all (handler_fits (length hs)) hs) (le-leb (length hs) 64 a.few) (subst (λ k. list_all (handler_fits k) hs ≡ true) a.count all_fit)) distinct,
-    words)
+    let distinct : are_distinct (λ a b. same_text a.name b.name) hs ≡ true = each_distinct (λ d h. HandlerFits n d h) (λ a b. same_text a.name b.name) (λ d h f. f.2) hs [] refl a.fits in (
+      named_said (found_at (top key.Handler) t) a.entries hs a.listed a.says,
+      and_from (nat_le (length hs) 64 && list_all (handler_fits (length hs)) hs) (are_distinct (λ a b. same_text a.name b.name) hs)
+          (and_from (nat_le (length hs) 64) (list_all (handler_fits (length hs)) hs) (le-leb (length hs) 64 a.few) (subst (λ k. list_all (handler_fits k) hs ≡ true) a.count all_fit)) distinct,
+      words,
+    )
 
 handlers_read : (t : Members) (hs : List HandlerDef) → SaysTables (SaysHandlerDef (IsNameAt hs)) t (codes "handler") hs → handlers_fit hs ≡ true → list_all names_words hs ≡ true → handlers_at t ≡ Ok hs
 handlers_read t hs says fits words =
@@ -162,11 +165,12 @@ handlers_read t hs says fits words =
 -- the procedures
 procedures_said : (t : Members) (ps : List ProcedureDef) → procedures_at t ≡ Ok ps → SaysTables SaysProcedure t (codes "procedure") ps × (procedures_fit ps ≡ true)
 procedures_said t ps is =
-    let a = entries_said (top key.Procedure) 64 (found_at (top key.Procedure) t) (λ es. procedure_after) (λ es v p. IsTableOf (λ e. SaysProcedure e p) v) (λ es d p. ProcedureFits d p) (λ es. entry_procedure_said) ps is in
-    (a.says,
-    and_from (nat_le (length ps) 64 && list_all procedure_fits ps) (are_distinct (λ a b. same_text a.name b.name) ps)
-    (and_from (nat_le (length ps) 64) (list_all procedure_fits ps) (le-leb (length ps) 64 a.few) (each_all ProcedureFits procedure_fits (λ d p f. f.0) ps [] a.fits))
-    (each_distinct ProcedureFits (λ a b. same_text a.name b.name) (λ d p f. f.2) ps [] refl a.fits))
+    let a = entries_said (top key.Procedure) 64 (found_at (top key.Procedure) t) (λ es. procedure_after) (λ es v p. IsTableOf (λ e. SaysProcedure e p) v) (λ es d p. ProcedureFits d p) (λ es. entry_procedure_said) ps is in (
+      a.says,
+      and_from (nat_le (length ps) 64 && list_all procedure_fits ps) (are_distinct (λ a b. same_text a.name b.name) ps)
+          (and_from (nat_le (length ps) 64) (list_all procedure_fits ps) (le-leb (length ps) 64 a.few) (each_all ProcedureFits procedure_fits (λ d p f. f.0) ps [] a.fits))
+          (each_distinct ProcedureFits (λ a b. same_text a.name b.name) (λ d p f. f.2) ps [] refl a.fits),
+    )
 
 procedures_read : (t : Members) (ps : List ProcedureDef) → SaysTables SaysProcedure t (codes "procedure") ps → procedures_fit ps ≡ true → procedures_at t ≡ Ok ps
 procedures_read t ps says fits =
@@ -179,12 +183,13 @@ procedures_read t ps says fits =
 -- the causes
 causes_said : (n visits : ℕ) (t : Members) (cs : List CauseAt) → 1 ≤ n → causes_at n visits t ≡ Ok cs → SaysTables SaysCause t (codes "cause") cs × (causes_fit n visits cs ≡ true) × (list_all has_port cs ≡ true)
 causes_said n visits t cs some is =
-    let a = entries_said (top key.Cause) 4096 (found_at (top key.Cause) t) (λ es. cause_after n visits) (λ es v c. IsTableOf (λ e. SaysCause e c) v) (λ es d c. CauseFits n visits d c) (λ es. entry_cause_said n visits some) cs is in
-    (a.says,
-    and_from (nat_le (length cs) 4096 && list_all (cause_fits n visits) cs) (are_distinct same_visit cs)
-    (and_from (nat_le (length cs) 4096) (list_all (cause_fits n visits) cs) (le-leb (length cs) 4096 a.few) (each_all (λ d c. CauseFits n visits d c) (cause_fits n visits) (λ d c f. f.0) cs [] a.fits))
-    (each_distinct (λ d c. CauseFits n visits d c) same_visit (λ d c f. f.2) cs [] refl a.fits),
-    each_all (λ d c. CauseFits n visits d c) has_port (λ d c f. f.1) cs [] a.fits)
+    let a = entries_said (top key.Cause) 4096 (found_at (top key.Cause) t) (λ es. cause_after n visits) (λ es v c. IsTableOf (λ e. SaysCause e c) v) (λ es d c. CauseFits n visits d c) (λ es. entry_cause_said n visits some) cs is in (
+      a.says,
+      and_from (nat_le (length cs) 4096 && list_all (cause_fits n visits) cs) (are_distinct same_visit cs)
+          (and_from (nat_le (length cs) 4096) (list_all (cause_fits n visits) cs) (le-leb (length cs) 4096 a.few) (each_all (λ d c. CauseFits n visits d c) (cause_fits n visits) (λ d c f. f.0) cs [] a.fits))
+          (each_distinct (λ d c. CauseFits n visits d c) same_visit (λ d c f. f.2) cs [] refl a.fits),
+      each_all (λ d c. CauseFits n visits d c) has_port (λ d c f. f.1) cs [] a.fits,
+    )
 
 causes_read : (n visits : ℕ) (t : Members) (cs : List CauseAt) → SaysTables SaysCause t (codes "cause") cs → causes_fit n visits cs ≡ true → list_all has_port cs ≡ true → causes_at n visits t ≡ Ok cs
 causes_read n visits t cs says fits ports =
@@ -246,43 +251,45 @@ tables_said t h d keys fit only is =
     let (procedures_say, procedures_there) = procedures_said t procedures procedures_is in
     let (causes_say, causes_there, causes_have) = causes_said h.processors h.visits t causes fit.processors_fit.0 causes_is in
     let (few, room) = limits_said h smram judged judged_is in
-    subst (λ x. Says t x × Fits x) (same_ok (setup_of h smram waves handlers procedures causes) d rest5)
-    (record {
-      version_is = keys.version_is;
-      processors_is = keys.processors_is;
-      map_is = keys.map_is;
-      policy_is = keys.policy_is;
-      fixed_is = keys.fixed_is;
-      mode_is = keys.mode_is;
-      polls_are = keys.polls_are;
-      visits_is = keys.visits_is;
-      ops_is = keys.ops_is;
-      ids_are = keys.ids_are;
-      smram_is = smram_says;
-      waves_are = waves_say;
-      handlers_are = handlers_say;
-      procedures_are = procedures_say;
-      causes_are = causes_say;
-      only = only;
-    }, record {
-      processors_fit = fit.processors_fit;
-      policy_fit = fit.policy_fit;
-      polls_fit = fit.polls_fit;
-      visits_fit = fit.visits_fit;
-      ops_fit = fit.ops_fit;
-      ids_for_each = fit.ids_fit.0;
-      ids_distinct = fit.ids_fit.1;
-      ids_small = fit.ids_fit.2;
-      smram_fit = smram_there;
-      smram_room = room;
-      waves_fits = waves_there;
-      handlers_fits = handlers_there;
-      handlers_words = handlers_names;
-      procedures_fits = procedures_there;
-      causes_fits = causes_there;
-      causes_ports = causes_have;
-      events_few = few;
-    })
+    subst (λ x. Says t x × Fits x) (same_ok (setup_of h smram waves handlers procedures causes) d rest5) (
+      record {
+        version_is = keys.version_is;
+        processors_is = keys.processors_is;
+        map_is = keys.map_is;
+        policy_is = keys.policy_is;
+        fixed_is = keys.fixed_is;
+        mode_is = keys.mode_is;
+        polls_are = keys.polls_are;
+        visits_is = keys.visits_is;
+        ops_is = keys.ops_is;
+        ids_are = keys.ids_are;
+        smram_is = smram_says;
+        waves_are = waves_say;
+        handlers_are = handlers_say;
+        procedures_are = procedures_say;
+        causes_are = causes_say;
+        only = only;
+      },
+      record {
+        processors_fit = fit.processors_fit;
+        policy_fit = fit.policy_fit;
+        polls_fit = fit.polls_fit;
+        visits_fit = fit.visits_fit;
+        ops_fit = fit.ops_fit;
+        ids_for_each = fit.ids_fit.0;
+        ids_distinct = fit.ids_fit.1;
+        ids_small = fit.ids_fit.2;
+        smram_fit = smram_there;
+        smram_room = room;
+        waves_fits = waves_there;
+        handlers_fits = handlers_there;
+        handlers_words = handlers_names;
+        procedures_fits = procedures_there;
+        causes_fits = causes_there;
+        causes_ports = causes_have;
+        events_few = few;
+      },
+    )
 
 pub setup_said : (t : Members) (d : SetupData) → setup_at t ≡ Ok d → Says t d × Fits d
 setup_said t d is =
@@ -340,17 +347,17 @@ setup_is_read t d says fits =
     let (procedure_list, procedures_listed) = is_listed (top key.Procedure) 64 (found_at (top key.Procedure) t) (λ v p. IsTableOf (λ e. SaysProcedure e p) v) d.procedures says.procedures_are procedures_few in
     let (cause_list, causes_listed) = is_listed (top key.Cause) 4096 (found_at (top key.Cause) t) (λ v c. IsTableOf (λ e. SaysCause e c) v) d.causes says.causes_are causes_few in
     let lists : lists_checked t h ≡ Ok h =
-    joined (smram_at t) (λ smram_there. read_then (wave_entries h.visits t) (λ wave_there. read_then (handler_entries t) (λ handler_there. read_then (procedure_entries t) (λ procedure_there. read_then (cause_entries t) (λ cause_there. and_no_other Top (keys_by h.policy) t h))))) (smram.found) (h) (smram.listed) 
-    (joined (wave_entries h.visits t) (λ wave_there. read_then (handler_entries t) (λ handler_there. read_then (procedure_entries t) (λ procedure_there. read_then (cause_entries t) (λ cause_there. and_no_other Top (keys_by h.policy) t h)))) (wave_list) (h) (waves_listed) 
-    (joined (handler_entries t) (λ handler_there. read_then (procedure_entries t) (λ procedure_there. read_then (cause_entries t) (λ cause_there. and_no_other Top (keys_by h.policy) t h))) (handler_list) (h) (handlers_listed) 
-    (joined (procedure_entries t) (λ procedure_there. read_then (cause_entries t) (λ cause_there. and_no_other Top (keys_by h.policy) t h)) (procedure_list) (h) (procedures_listed) 
+    joined (smram_at t) (λ smram_there. read_then (wave_entries h.visits t) (λ wave_there. read_then (handler_entries t) (λ handler_there. read_then (procedure_entries t) (λ procedure_there. read_then (cause_entries t) (λ cause_there. and_no_other Top (keys_by h.policy) t h))))) (smram.found) (h) (smram.listed)
+    (joined (wave_entries h.visits t) (λ wave_there. read_then (handler_entries t) (λ handler_there. read_then (procedure_entries t) (λ procedure_there. read_then (cause_entries t) (λ cause_there. and_no_other Top (keys_by h.policy) t h)))) (wave_list) (h) (waves_listed)
+    (joined (handler_entries t) (λ handler_there. read_then (procedure_entries t) (λ procedure_there. read_then (cause_entries t) (λ cause_there. and_no_other Top (keys_by h.policy) t h))) (handler_list) (h) (handlers_listed)
+    (joined (procedure_entries t) (λ procedure_there. read_then (cause_entries t) (λ cause_there. and_no_other Top (keys_by h.policy) t h)) (procedure_list) (h) (procedures_listed)
     (joined (cause_entries t) (λ cause_there. and_no_other Top (keys_by h.policy) t h) (cause_list) (h) (causes_listed) (others_read Top (keys_by h.policy) (names_by h.policy ++ top_names) (names_known h.policy) t h says.only))))) in
     let all_tables : tables_at t h ≡ Ok d =
-    joined (area_at t) (λ smram. read_then (waves_at h.processors h.visits t) (λ waves. read_then (handlers_at t) (λ handlers. read_then (procedures_at t) (λ procedures. read_then (causes_at h.processors h.visits t) (λ causes. read_then (limits_judged h smram) (λ judged. Ok (setup_of h smram waves handlers procedures causes))))))) (d.smram) (d) (joined (smram_at t) area_of smram.found d.smram smram.listed smram.read) 
-    (joined (waves_at h.processors h.visits t) (λ waves. read_then (handlers_at t) (λ handlers. read_then (procedures_at t) (λ procedures. read_then (causes_at h.processors h.visits t) (λ causes. read_then (limits_judged h d.smram) (λ judged. Ok (setup_of h d.smram waves handlers procedures causes)))))) (d.waves) (d) (joined (wave_entries d.visits t) (each (wave_after d.processors) []) wave_list d.waves waves_listed waves_are) 
-    (joined (handlers_at t) (λ handlers. read_then (procedures_at t) (λ procedures. read_then (causes_at h.processors h.visits t) (λ causes. read_then (limits_judged h d.smram) (λ judged. Ok (setup_of h d.smram d.waves handlers procedures causes))))) (d.handlers) (d) (handlers_read t d.handlers says.handlers_are fits.handlers_fits fits.handlers_words) 
-    (joined (procedures_at t) (λ procedures. read_then (causes_at h.processors h.visits t) (λ causes. read_then (limits_judged h d.smram) (λ judged. Ok (setup_of h d.smram d.waves d.handlers procedures causes)))) (d.procedures) (d) (procedures_read t d.procedures says.procedures_are fits.procedures_fits) 
-    (joined (causes_at h.processors h.visits t) (λ causes. read_then (limits_judged h d.smram) (λ judged. Ok (setup_of h d.smram d.waves d.handlers d.procedures causes))) (d.causes) (d) (causes_read d.processors d.visits t d.causes says.causes_are fits.causes_fits fits.causes_ports) 
+    joined (area_at t) (λ smram. read_then (waves_at h.processors h.visits t) (λ waves. read_then (handlers_at t) (λ handlers. read_then (procedures_at t) (λ procedures. read_then (causes_at h.processors h.visits t) (λ causes. read_then (limits_judged h smram) (λ judged. Ok (setup_of h smram waves handlers procedures causes))))))) (d.smram) (d) (joined (smram_at t) area_of smram.found d.smram smram.listed smram.read)
+    (joined (waves_at h.processors h.visits t) (λ waves. read_then (handlers_at t) (λ handlers. read_then (procedures_at t) (λ procedures. read_then (causes_at h.processors h.visits t) (λ causes. read_then (limits_judged h d.smram) (λ judged. Ok (setup_of h d.smram waves handlers procedures causes)))))) (d.waves) (d) (joined (wave_entries d.visits t) (each (wave_after d.processors) []) wave_list d.waves waves_listed waves_are)
+    (joined (handlers_at t) (λ handlers. read_then (procedures_at t) (λ procedures. read_then (causes_at h.processors h.visits t) (λ causes. read_then (limits_judged h d.smram) (λ judged. Ok (setup_of h d.smram d.waves handlers procedures causes))))) (d.handlers) (d) (handlers_read t d.handlers says.handlers_are fits.handlers_fits fits.handlers_words)
+    (joined (procedures_at t) (λ procedures. read_then (causes_at h.processors h.visits t) (λ causes. read_then (limits_judged h d.smram) (λ judged. Ok (setup_of h d.smram d.waves d.handlers procedures causes)))) (d.procedures) (d) (procedures_read t d.procedures says.procedures_are fits.procedures_fits)
+    (joined (causes_at h.processors h.visits t) (λ causes. read_then (limits_judged h d.smram) (λ judged. Ok (setup_of h d.smram d.waves d.handlers d.procedures causes))) (d.causes) (d) (causes_read d.processors d.visits t d.causes says.causes_are fits.causes_fits fits.causes_ports)
     (joined (limits_judged h d.smram) (λ judged. Ok (setup_of h d.smram d.waves d.handlers d.procedures d.causes)) (tt) (d) (limits_read h d.smram fits.events_few fits.smram_room) (refl)))))) in
     joined (head_at t) (tables_at t) h d (joined (keys_read t) (lists_checked t) h h (setup_keys t d says fits) lists) all_tables
 
