@@ -7,7 +7,7 @@ use Rattle.cpu_table.specs.Data.{SetupData}
 use Rattle.platform_laws.specs.Says.{Says}
 use Rattle.platform_laws.specs.Fits.{Fits}
 
--- the bytes are UTF-8, and a document of TOML 1.0 with these members
+-- the bytes are UTF-8, and a TOML document with these members
 abbrev pub IsDocument : List ℕ → Members → Type 0
 IsDocument bytes t = IsTrue (is_utf8 bytes) × (parse_document bytes ≡ Some t)
 
