@@ -195,17 +195,14 @@ pub record KeysFit (h : Head) : Type 0 where
 abbrev head_of : ℕ → MapKind → Policy → Mode → Polls → ℕ → ℕ → List ℕ → Head
 head_of processors kind policy mode polls visits ops ids = record { processors = processors; kind = kind; policy = policy; mode = mode; polls = polls; visits = visits; ops = ops; ids = ids }
 
-pub keys_said : (t : Members) (h : Head) → keys_read t ≡ Ok h → KeysSay t h × KeysFit h
-keys_said t h is =
-    let (version, version_is, rest0) = split (number_at (top key.Version) 1 1 t) (λ version. read_then (number_at (top key.Processors) 1 64 t) (λ n. read_then (word_at (top key.Map) map_of t) (λ kind. read_then (policy_at n t) (λ chosen. read_then (word_at (top key.Mode) mode_of t) (λ mode. read_then (polls_at t) (λ polls. read_then (number_at (top key.Visits) 1 256 t) (λ visits. read_then (number_at (top key.Ops) 1 4096 t) (λ ops. read_then (ids_at n t) (λ ids. Ok (head_of n kind chosen mode polls visits ops ids)))))))))) h is in
-    let (n, n_is, rest1) = split (number_at (top key.Processors) 1 64 t) (λ n. read_then (word_at (top key.Map) map_of t) (λ kind. read_then (policy_at n t) (λ chosen. read_then (word_at (top key.Mode) mode_of t) (λ mode. read_then (polls_at t) (λ polls. read_then (number_at (top key.Visits) 1 256 t) (λ visits. read_then (number_at (top key.Ops) 1 4096 t) (λ ops. read_then (ids_at n t) (λ ids. Ok (head_of n kind chosen mode polls visits ops ids))))))))) h rest0 in
-    let (kind, kind_is, rest2) = split (word_at (top key.Map) map_of t) (λ kind. read_then (policy_at n t) (λ chosen. read_then (word_at (top key.Mode) mode_of t) (λ mode. read_then (polls_at t) (λ polls. read_then (number_at (top key.Visits) 1 256 t) (λ visits. read_then (number_at (top key.Ops) 1 4096 t) (λ ops. read_then (ids_at n t) (λ ids. Ok (head_of n kind chosen mode polls visits ops ids)))))))) h rest1 in
-    let (chosen, chosen_is, rest3) = split (policy_at n t) (λ chosen. read_then (word_at (top key.Mode) mode_of t) (λ mode. read_then (polls_at t) (λ polls. read_then (number_at (top key.Visits) 1 256 t) (λ visits. read_then (number_at (top key.Ops) 1 4096 t) (λ ops. read_then (ids_at n t) (λ ids. Ok (head_of n kind chosen mode polls visits ops ids))))))) h rest2 in
-    let (mode, mode_is, rest4) = split (word_at (top key.Mode) mode_of t) (λ mode. read_then (polls_at t) (λ polls. read_then (number_at (top key.Visits) 1 256 t) (λ visits. read_then (number_at (top key.Ops) 1 4096 t) (λ ops. read_then (ids_at n t) (λ ids. Ok (head_of n kind chosen mode polls visits ops ids)))))) h rest3 in
-    let (polls, polls_is, rest5) = split (polls_at t) (λ polls. read_then (number_at (top key.Visits) 1 256 t) (λ visits. read_then (number_at (top key.Ops) 1 4096 t) (λ ops. read_then (ids_at n t) (λ ids. Ok (head_of n kind chosen mode polls visits ops ids))))) h rest4 in
-    let (visits, visits_is, rest6) = split (number_at (top key.Visits) 1 256 t) (λ visits. read_then (number_at (top key.Ops) 1 4096 t) (λ ops. read_then (ids_at n t) (λ ids. Ok (head_of n kind chosen mode polls visits ops ids)))) h rest5 in
-    let (ops, ops_is, rest7) = split (number_at (top key.Ops) 1 4096 t) (λ ops. read_then (ids_at n t) (λ ids. Ok (head_of n kind chosen mode polls visits ops ids))) h rest6 in
-    let (ids, ids_is, rest8) = split (ids_at n t) (λ ids. Ok (head_of n kind chosen mode polls visits ops ids)) h rest7 in
+-- the rest of a proof goes on with the first step's value as a variable, so that its terms stay small
+split_by : {A B C : Type 0} (r : Reading A) (next : A → Reading B) (b : B) → read_then r next ≡ Ok b → ((a : A) → r ≡ Ok a → next a ≡ Ok b → C) → C
+split_by (Ok a) next b is later = later a refl is
+split_by (Err f) next b is later = err_ok f b is
+
+keys_from : (t : Members) (version : ℕ) (n : ℕ) (kind : MapKind) (chosen : Policy) (mode : Mode) (polls : Polls) (visits : ℕ) (ops : ℕ) (ids : List ℕ) →
+    number_at (top key.Version) 1 1 t ≡ Ok version → number_at (top key.Processors) 1 64 t ≡ Ok n → word_at (top key.Map) map_of t ≡ Ok kind → policy_at n t ≡ Ok chosen → word_at (top key.Mode) mode_of t ≡ Ok mode → polls_at t ≡ Ok polls → number_at (top key.Visits) 1 256 t ≡ Ok visits → number_at (top key.Ops) 1 4096 t ≡ Ok ops → ids_at n t ≡ Ok ids → KeysSay t (head_of n kind chosen mode polls visits ops ids) × KeysFit (head_of n kind chosen mode polls visits ops ids)
+keys_from t version n kind chosen mode polls visits ops ids version_is n_is kind_is chosen_is mode_is polls_is visits_is ops_is ids_is =
     let (version_says, version_low, version_high) = number_said (top key.Version) 1 1 t version version_is in
     let (n_says, n_low, n_high) = number_said (top key.Processors) 1 64 t n n_is in
     let map_says = word_is (top key.Map) map_of t kind (map_text kind) (λ text e. map_said text kind e) kind_is in
@@ -216,7 +213,6 @@ keys_said t h is =
     let (ops_say, ops_low, ops_high) = number_said (top key.Ops) 1 4096 t ops ops_is in
     let (ids_say, ids_there) = ids_said n (found_at (top key.Ids) t) ids n_high ids_is in
     let first : version ≡ 1 = omega (arith, version_low, version_high) in
-    subst (λ x. KeysSay t x × KeysFit x) (same_ok (head_of n kind chosen mode polls visits ops ids) h rest8) (
       record {
         version_is = subst (λ k. SaysNumber t (codes "version") k) first version_says;
         processors_is = n_says;
@@ -238,6 +234,19 @@ keys_said t h is =
         ids_fit = ids_there;
       },
     )
+
+pub keys_said : (t : Members) (h : Head) → keys_read t ≡ Ok h → KeysSay t h × KeysFit h
+keys_said t h is =
+    split_by (number_at (top key.Version) 1 1 t) (λ version. read_then (number_at (top key.Processors) 1 64 t) (λ n. read_then (word_at (top key.Map) map_of t) (λ kind. read_then (policy_at n t) (λ chosen. read_then (word_at (top key.Mode) mode_of t) (λ mode. read_then (polls_at t) (λ polls. read_then (number_at (top key.Visits) 1 256 t) (λ visits. read_then (number_at (top key.Ops) 1 4096 t) (λ ops. read_then (ids_at n t) (λ ids. Ok (head_of n kind chosen mode polls visits ops ids)))))))))) h is (λ version version_is rest0.
+    split_by (number_at (top key.Processors) 1 64 t) (λ n. read_then (word_at (top key.Map) map_of t) (λ kind. read_then (policy_at n t) (λ chosen. read_then (word_at (top key.Mode) mode_of t) (λ mode. read_then (polls_at t) (λ polls. read_then (number_at (top key.Visits) 1 256 t) (λ visits. read_then (number_at (top key.Ops) 1 4096 t) (λ ops. read_then (ids_at n t) (λ ids. Ok (head_of n kind chosen mode polls visits ops ids))))))))) h rest0 (λ n n_is rest1.
+    split_by (word_at (top key.Map) map_of t) (λ kind. read_then (policy_at n t) (λ chosen. read_then (word_at (top key.Mode) mode_of t) (λ mode. read_then (polls_at t) (λ polls. read_then (number_at (top key.Visits) 1 256 t) (λ visits. read_then (number_at (top key.Ops) 1 4096 t) (λ ops. read_then (ids_at n t) (λ ids. Ok (head_of n kind chosen mode polls visits ops ids)))))))) h rest1 (λ kind kind_is rest2.
+    split_by (policy_at n t) (λ chosen. read_then (word_at (top key.Mode) mode_of t) (λ mode. read_then (polls_at t) (λ polls. read_then (number_at (top key.Visits) 1 256 t) (λ visits. read_then (number_at (top key.Ops) 1 4096 t) (λ ops. read_then (ids_at n t) (λ ids. Ok (head_of n kind chosen mode polls visits ops ids))))))) h rest2 (λ chosen chosen_is rest3.
+    split_by (word_at (top key.Mode) mode_of t) (λ mode. read_then (polls_at t) (λ polls. read_then (number_at (top key.Visits) 1 256 t) (λ visits. read_then (number_at (top key.Ops) 1 4096 t) (λ ops. read_then (ids_at n t) (λ ids. Ok (head_of n kind chosen mode polls visits ops ids)))))) h rest3 (λ mode mode_is rest4.
+    split_by (polls_at t) (λ polls. read_then (number_at (top key.Visits) 1 256 t) (λ visits. read_then (number_at (top key.Ops) 1 4096 t) (λ ops. read_then (ids_at n t) (λ ids. Ok (head_of n kind chosen mode polls visits ops ids))))) h rest4 (λ polls polls_is rest5.
+    split_by (number_at (top key.Visits) 1 256 t) (λ visits. read_then (number_at (top key.Ops) 1 4096 t) (λ ops. read_then (ids_at n t) (λ ids. Ok (head_of n kind chosen mode polls visits ops ids)))) h rest5 (λ visits visits_is rest6.
+    split_by (number_at (top key.Ops) 1 4096 t) (λ ops. read_then (ids_at n t) (λ ids. Ok (head_of n kind chosen mode polls visits ops ids))) h rest6 (λ ops ops_is rest7.
+    split_by (ids_at n t) (λ ids. Ok (head_of n kind chosen mode polls visits ops ids)) h rest7 (λ ids ids_is rest8.
+    subst (λ x. KeysSay t x × KeysFit x) (same_ok (head_of n kind chosen mode polls visits ops ids) h rest8) (keys_from t version n kind chosen mode polls visits ops ids version_is n_is kind_is chosen_is mode_is polls_is visits_is ops_is ids_is))))))))))
 
 pub keys_are_read : (t : Members) (h : Head) → KeysSay t h → KeysFit h → keys_read t ≡ Ok h
 keys_are_read t h says fits =
