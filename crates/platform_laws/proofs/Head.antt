@@ -212,7 +212,7 @@ keys_from t version n kind chosen mode polls visits ops ids version_is n_is kind
     let (visits_say, visits_low, visits_high) = number_said (top key.Visits) 1 256 t visits visits_is in
     let (ops_say, ops_low, ops_high) = number_said (top key.Ops) 1 4096 t ops ops_is in
     let (ids_say, ids_there) = ids_said n (found_at (top key.Ids) t) ids n_high ids_is in
-    let first : version ≡ 1 = omega (arith, version_low, version_high) in
+    let first : version ≡ 1 = omega (arith, version_low, version_high) in (
       record {
         version_is = subst (λ k. SaysNumber t (codes "version") k) first version_says;
         processors_is = n_says;
