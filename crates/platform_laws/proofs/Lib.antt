@@ -1,0 +1,12 @@
+mod Readings
+mod Lists
+mod Words
+mod Operands
+mod Parts
+mod Operations
+mod Growth
+mod Tables
+mod Names
+mod Head
+mod Whole
+mod Files

@@ -1,0 +1,5 @@
+pub mod Words
+pub mod Values
+pub mod Says
+pub mod Fits
+pub mod Platform

@@ -1,0 +1,23 @@
+ghost use Rattle.std.specs.Prelude.{◌≡◌, ℕ, List, Ok};
+ghost use Rattle.toml.specs.Data.{Members};
+ghost use Rattle.cpu_table.specs.Data.{SetupData};
+ghost use Rattle.platform_file.specs.Walk.{setup_at, setup_read};
+ghost use Rattle.platform_laws.specs.Says.{Says};
+ghost use Rattle.platform_laws.specs.Fits.{Fits};
+ghost use Rattle.platform_laws.specs.Platform.{StandsFor};
+
+/// The laws of platform files, over every file and every setup. It does nothing when it runs.
+pub fn platform_laws()
+    // A setup that is read from a document is said by it and fits, and one that is said and fits is read.
+    ensures said { (t : Members) (d : SetupData) → setup_at t ≡ Ok d → Says t d }
+    ensures fits { (t : Members) (d : SetupData) → setup_at t ≡ Ok d → Fits d }
+    ensures read { (t : Members) (d : SetupData) → Says t d → Fits d → setup_at t ≡ Ok d }
+
+    // No document says two setups that fit.
+    ensures one { (t : Members) (d e : SetupData) → Says t d → Fits d → Says t e → Fits e → d ≡ e }
+
+    // The same of files: what is read from the bytes is what they stand for, and they stand for one setup at most.
+    ensures file_stands { (bytes : List ℕ) (d : SetupData) → setup_read bytes ≡ Ok d → StandsFor bytes d }
+    ensures file_read { (bytes : List ℕ) (d : SetupData) → StandsFor bytes d → setup_read bytes ≡ Ok d }
+    ensures file_one { (bytes : List ℕ) (d e : SetupData) → StandsFor bytes d → StandsFor bytes e → d ≡ e }
+{}
