@@ -8,3 +8,6 @@ pub mod Rows
 pub mod Sessions
 pub mod FirstBytes
 pub mod Examples
+pub mod Lists
+pub mod Turns
+pub mod Dues

@@ -26,6 +26,8 @@ use Rattle.smram_pool.specs.State.{allocated, freed}
 use Rattle.handler_ops.specs.declared.desk.Desk.{Desk}
 use Rattle.handler_ops.specs.declared.desk.Job.{Job}
 use Rattle.handler_ops.specs.declared.need.Need.{Need}
+pub use Rattle.handler_ops.specs.declared.reach.Reach.{Reach}
+pub use Rattle.handler_ops.specs.declared.reach.Reach.TheVariants.{Outside, AtHand, Working, Elsewhere}
 use Rattle.handler_ops.specs.declared.need.Need.TheVariants as need
 use Rattle.handler_ops.specs.Serving.{Serving, Seat, Free, Open, Done, TokenState, NotOut, Uncollected, Collected, number, seat, token_of}
 use Rattle.handler_ops.specs.Operations.{register_of, pool_status, free_status, unregister_status, procedure_place}
@@ -87,13 +89,7 @@ claiming_job c l = record { need = need.ClaimBusy c; on = λ found held. if foun
 abbrev pub awaiting_job : ℕ → Step
 awaiting_job c = record { need = need.AwaitBusy c; on = λ found held. Takes c }
 
--- The desk rule. A processor is none of the platform's; or its image is at hand; or it has a job; or it is elsewhere.
-pub data Reach : Type 0 where
-  Outside : Reach
-  AtHand : Reach
-  Working : Reach
-  Elsewhere : Reach
-
+-- The desk rule goes by where the processor's image is.
 abbrev pub has_job : Seat → Bool
 has_job Free = false
 has_job (Open j t) = true

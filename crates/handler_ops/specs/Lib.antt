@@ -7,3 +7,6 @@ pub mod Stands
 pub mod Course
 pub mod Conditions
 pub mod Procedures
+pub mod Sessions
+pub mod Progresses
+pub mod Told

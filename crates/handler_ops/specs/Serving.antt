@@ -2,25 +2,16 @@
 use Rattle.std.specs.Prelude.{◌≡◌, ℕ, suc, Bool, true, false, ◌&&◌, ◌==◌, not, List, [], ◌∷◌, slice_index_or, slice_set, Option, Some, None, option_map, cond}
 use Rattle.std.specs.List.{find, filter}
 use Rattle.smm_base.specs.declared.status.Status.{Status}
+pub use Rattle.handler_ops.specs.declared.seat.Seat.{Seat}
+pub use Rattle.handler_ops.specs.declared.seat.Seat.TheVariants.{Free, Open, Done}
+pub use Rattle.handler_ops.specs.declared.token.Token.{Token}
+pub use Rattle.handler_ops.specs.declared.token.TokenState.{TokenState}
+pub use Rattle.handler_ops.specs.declared.token.TokenState.TheVariants.{NotOut, Uncollected, Collected}
 use Rattle.smm_base.specs.declared.status.Status.TheVariants.{Success}
 use Rattle.cpu_table.specs.declared.handlers.Operand.{Operand}
 use Rattle.cpu_table.specs.declared.handlers.Operand.TheVariants.{Number, Variable}
 use Rattle.handler_registry.specs.Registrations.{Registrations}
 use Rattle.smram_pool.specs.State.{PoolState}
-
--- A processor's uncollected job: there is none, or one that is still to be run, or one that was run, with its result and
--- its status. The number is the job's; the Bool says whether it was given with a token.
-pub data Seat : Type 0 where
-  Free : Seat
-  Open : ℕ → Bool → Seat
-  Done : ℕ → Bool → ℕ → Status → Seat
-
--- the token of a job that was collected: the job, its processor, its result and its status
-pub record Token : Type 0 where
-  pub job : ℕ
-  pub cpu : ℕ
-  pub result : ℕ
-  pub status : Status
 
 -- `given` is how many jobs were given in this session, and `left` how many units may still be begun
 pub record Serving : Type 0 where
@@ -108,12 +99,6 @@ abbrev pub HasEnded : Seat → Type 0
 HasEnded Free = Unit {0}
 HasEnded (Open j has_token) = ⊥
 HasEnded (Done j has_token x S) = Unit {0}
-
--- What became of a token: none is out; or its job, which this processor has, isn't collected; or it is.
-pub data TokenState : Type 0 where
-  NotOut : TokenState
-  Uncollected : ℕ → TokenState
-  Collected : Token → TokenState
 
 -- an uncollected job with this number and a token
 abbrev pub owes_token : ℕ → Seat → Bool

@@ -1,7 +1,8 @@
-ghost use Rattle.std.specs.Prelude.{◌≡◌, ◌<◌, None, Some, length, slice_set};
-ghost use Rattle.handler_ops.specs.Course.{desk_of};
+ghost use Rattle.std.specs.Prelude.{◌≡◌, ◌<◌, None, Some, length, option_map, slice_set};
+ghost use Rattle.handler_ops.specs.Course.{desk_of, is_held};
+ghost use Rattle.handler_ops.specs.Told.{with_job};
 
-use crate::desk::Desk;
+use crate::desk::{Desk, Job};
 use std::marker::Model;
 
 /// The desks that the boot processor holds: an item for each processor by rising number, which contracts see as the list.
@@ -33,6 +34,17 @@ impl Desks {
         self.desks.len()
     }
 
+    /// The desk of a processor is held.
+    #[tactic(auto, using(crate::proofs::Dues::held_is))]
+    pub fn is_held(&self, c: u16) -> bool
+        ensures { result ≡ is_held self.now c }
+    {
+        match self.desks.get(usize::from(c)) {
+            Some(item) => item.is_some(),
+            None => false,
+        }
+    }
+
     /// Gives up the desk of a processor, if it is held.
     pub fn take(&mut self, c: u16) -> Option<Desk>
         ensures taken { result ≡ desk_of self.old c }
@@ -44,12 +56,31 @@ impl Desks {
         }
     }
 
+    /// Gives a job to the desk of a processor, if it is held.
+    pub fn give(&mut self, c: u16, job: Job)
+        requires { job.done ≡ None }
+        ensures { self.new ≡ slice_set self.old c (option_map (with_job job.number job.procedure job.arg) (desk_of self.old c)) }
+    {
+        if let Some(item) = self.desks.get_mut(usize::from(c)) {
+            give_to(item, job);
+        }
+    }
+
     /// Holds the desk of a processor.
     pub fn put(&mut self, c: u16, desk: Desk)
         requires { c < length self.old }
         ensures { self.new ≡ slice_set self.old c (Some desk) }
     {
         self.desks[usize::from(c)] = Some(desk);
+    }
+}
+
+fn give_to(item: &mut Option<Desk>, job: Job)
+    requires { job.done ≡ None }
+    ensures { item.new ≡ option_map (with_job job.number job.procedure job.arg) item.old }
+{
+    if let Some(desk) = item {
+        desk.job = Some(job);
     }
 }
 

@@ -7,9 +7,17 @@ mod held;
 mod laws;
 mod need;
 mod procedure;
+mod progress;
+mod reach;
+mod row;
+mod seat;
+mod server;
+mod state;
+mod token;
 
 pub use desk::{Desk, Job};
 pub use held::{Desks, Held};
 pub use laws::{courses, serving_lists, standing};
 pub use need::Need;
 pub use procedure::run_job;
+pub use server::Server;

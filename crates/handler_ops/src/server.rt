@@ -1,0 +1,138 @@
+ghost use Rattle.std.specs.Prelude.{◌≡◌, ◌<◌, ◌≤◌, IfOk, length, replicate};
+ghost use Rattle.cpu_table.specs.Data.{data_of};
+ghost use Rattle.handler_ops.specs.declared.seat.Seat.TheVariants.{Free};
+ghost use Rattle.handler_ops.specs.Serving.{seat};
+ghost use Rattle.handler_ops.specs.Sessions.{first_session, begun_session, job_number, registered_if, registrations_of, pool_at_first};
+
+use crate::progress::{MOST_LEVELS, Pending, Progress};
+use crate::row::Row;
+use crate::seat::Seat;
+use crate::state::State;
+use crate::token::Tokens;
+use cpu_table::{HandlerDef, Setup};
+use handler_registry::Registry;
+use smbase_reloc::pool_range;
+use smm_base::{HandlerType, NoMemory};
+use smram_pool::Pool;
+use std::alloc::{AllocError, Global};
+use std::marker::Model;
+
+/// What a boot processor serves with: the handlers that are registered, the pool, and where serving stands. It tells the
+/// next access, and from the number that the access found the label of its event.
+#[derive(Drop)]
+pub struct Server {
+    progress: Progress,
+    told: Row,
+}
+
+impl Model for Server {
+    ghost use Rattle.handler_ops.specs.Sessions.{Session};
+
+    ghost Value = { Session };
+
+    ghost use Rattle.handler_ops.specs.Progresses.{session_in, IsGoing};
+
+    ghost view = { λ s. session_in s.progress s.told };
+
+    ghost invariant = { λ s. IsGoing s.progress };
+}
+
+impl Server {
+    /// The server of a platform, with the handlers of its file registered in their order and the pool of its layout. It
+    /// takes all memory that it will use. Before the first `begin` it has nothing to serve.
+    pub fn new(alloc: Global, setup: &Setup) -> Result<Server, NoMemory>
+        ensures { IfOk result (λ server. server ≡ first_session (data_of setup.now)) }
+    {
+        let registrations = registered(alloc, setup.handlers.as_slice())?;
+        let pool = pool_of_platform(alloc, setup)?;
+        let seats = free_seats(alloc, usize::from(setup.processors))?;
+        let tokens = Tokens::new(alloc)?;
+        let walks = Vec::with_capacity(alloc, MOST_LEVELS)?;
+        let setup = setup.copy()?;
+        let units = setup.ops;
+        Ok(Server {
+            progress: Progress {
+                setup,
+                me: 0,
+                wave: 0,
+                entry: 0,
+                walks,
+                pending: Pending::Nothing,
+                marked: false,
+                state: State::new(registrations, pool, seats, tokens, units),
+            },
+            told: Row::Finished,
+        })
+    }
+
+    /// A session begins whose boot processor is `me` and whose wave is `wave`; 0, and a number above that of the waves, is
+    /// no wave, and has no walks. The variables are 0, there are no jobs and no tokens, and no unit was begun.
+    pub fn begin(&mut self, me: u16, wave: u32)
+        requires { me < self.old.setup.processors }
+        ensures { self.new ≡ begun_session me wave self.old }
+    {
+        self.progress.me = me;
+        self.progress.wave = wave;
+        self.progress.entry = 0;
+        self.progress.walks.clear();
+        self.progress.pending = Pending::First(wave);
+        self.progress.marked = false;
+        self.progress.state.begin(self.progress.setup.ops);
+        self.told = Row::Finished;
+    }
+
+    /// How many processors the platform has.
+    pub fn processors(&self) -> u16
+        ensures { result ≡ self.now.setup.processors }
+    {
+        self.progress.setup.processors
+    }
+
+    /// The number of the job that a processor was given since the last `begin` and that no answer collected. None where
+    /// there is none.
+    pub fn job_of(&self, c: u16) -> Option<u32>
+        ensures { result ≡ job_number (seat self.now.course.place.state c) }
+    {
+        match self.progress.state.seat(c) {
+            Seat::Free => None,
+            Seat::Open(job, _) => Some(job),
+            Seat::Done(job, _, _, _) => Some(job),
+        }
+    }
+}
+
+// The handlers of the file that stand on a list from the start, registered in the file's order.
+fn registered(alloc: Global, handlers: &[HandlerDef]) -> Result<Registry, NoMemory>
+    requires { length handlers.now ≤ 64 }
+    ensures { IfOk result (λ registry. registry ≡ registrations_of handlers.now) }
+{
+    let mut registry = Registry::new(alloc)?;
+    for (place, handler) in handlers.iter().enumerate() {
+        register_if(&mut registry, handler.kind, place as u16);
+    }
+    Ok(registry)
+}
+
+fn register_if(registry: &mut Registry, kind: Option<HandlerType>, handler: u16)
+    ensures { registry.new ≡ registered_if kind handler registry.old }
+{
+    if let Some(kind) = kind {
+        let _ = registry.register(kind, handler);
+    }
+}
+
+fn pool_of_platform(alloc: Global, setup: &Setup) -> Result<Pool, NoMemory>
+    ensures { IfOk result (λ pool. pool ≡ pool_at_first (data_of setup.now)) }
+{
+    let range = pool_range(&setup.smram, setup.processors);
+    Pool::new(alloc, range.start, range.pages)
+}
+
+// A free seat for each of so many processors.
+fn free_seats(alloc: Global, n: usize) -> Result<Vec<Seat>, AllocError>
+    ensures { IfOk result (λ seats. seats.items ≡ replicate n Free) }
+{
+    let mut seats = Vec::new(alloc);
+    seats.resize(n, Seat::Free)?;
+    Ok(seats)
+}
