@@ -13,6 +13,7 @@ mod row;
 mod seat;
 mod server;
 mod state;
+mod telling;
 mod token;
 
 pub use desk::{Desk, Job};

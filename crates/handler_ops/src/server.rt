@@ -2,8 +2,13 @@ ghost use Rattle.std.specs.Prelude.{◌≡◌, ◌<◌, ◌≤◌, IfOk, length,
 ghost use Rattle.cpu_table.specs.Data.{data_of};
 ghost use Rattle.handler_ops.specs.declared.seat.Seat.TheVariants.{Free};
 ghost use Rattle.handler_ops.specs.Serving.{seat};
-ghost use Rattle.handler_ops.specs.Sessions.{first_session, begun_session, job_number, registered_if, registrations_of, pool_at_first};
+ghost use Rattle.handler_ops.specs.Course.{need_of, step_of};
+ghost use Rattle.handler_ops.specs.Sessions.{first_session, begun_session, setting_of, job_number, registered_if, registrations_of, pool_at_first};
+ghost use Rattle.handler_ops.specs.Told.{step_as, need_as, handed_as, given_job, handed};
 
+use crate::desk::Job;
+use crate::held::{Desks, Held};
+use crate::need::Need;
 use crate::progress::{MOST_LEVELS, Pending, Progress};
 use crate::row::Row;
 use crate::seat::Seat;
@@ -16,6 +21,7 @@ use smm_base::{HandlerType, NoMemory};
 use smram_pool::Pool;
 use std::alloc::{AllocError, Global};
 use std::marker::Model;
+use sync_words::Label;
 
 /// What a boot processor serves with: the handlers that are registered, the pool, and where serving stands. It tells the
 /// next access, and from the number that the access found the label of its event.
@@ -81,6 +87,21 @@ impl Server {
         self.told = Row::Finished;
     }
 
+    /// The next access, or `Finished` where serving is over. Where a processor is given a job, its desk has it then. It is
+    /// called after `begin`, and again once the need before, other than `Finished`, was answered.
+    #[tactic(auto, using(crate::proofs::Dues::need_is, crate::proofs::Dues::handed_is))]
+    pub fn next(&mut self, held: &mut Held) -> Need
+        ensures need { result ≡ need_of (setting_of self.old) held.old.desks self.old.course }
+        ensures told { step_as (setting_of self.old) self.old.course.place.state self.new.told ≡ step_of (setting_of self.old) held.old.desks self.old.course }
+        ensures stays { self.new ≡ record self.old { told = self.new.told } }
+        ensures desks { held.new.desks ≡ handed (step_of (setting_of self.old) held.old.desks self.old.course) held.old.desks }
+    {
+        let row = self.progress.row(&held.desks);
+        give_by(row, &mut held.desks);
+        self.told = row;
+        need_of(row)
+    }
+
     /// How many processors the platform has.
     pub fn processors(&self) -> u16
         ensures { result ≡ self.now.setup.processors }
@@ -98,6 +119,55 @@ impl Server {
             Seat::Open(job, _) => Some(job),
             Seat::Done(job, _, _, _) => Some(job),
         }
+    }
+}
+
+fn need_of(row: Row) -> Need
+    ensures { result ≡ need_as row }
+{
+    match row {
+        Row::Finished => Need::Finished,
+        Row::Looking(_) => Need::Look,
+        Row::ClaimingDesk(c, _) => Need::ClaimPresent(c),
+        Row::ClaimingJob(c, _) => Need::ClaimBusy(c),
+        Row::AwaitingJob(c) => Need::AwaitBusy(c),
+        Row::Putting(c) => Need::PutBusy(c),
+        Row::Raising(c, _) => Need::RaiseRun(c),
+        Row::Reading { .. } => Need::Look,
+        Row::Writing { .. } => Need::Look,
+        Row::Allocating(_) => Need::Look,
+        Row::Freeing(_) => Need::Look,
+    }
+}
+
+// The desk that a raise gives away has the job of its label.
+fn give_by(row: Row, held: &mut Desks)
+    ensures { held.new ≡ handed_as row held.old }
+{
+    if let Row::Raising(c, label) = row {
+        give_job(c, label, held);
+    }
+}
+
+fn give_job(c: u16, label: Label, held: &mut Desks)
+    ensures { held.new ≡ given_job c label held.old }
+{
+    if let Label::Start {
+        job,
+        procedure,
+        arg,
+        ..
+    } = label
+    {
+        held.give(
+            c,
+            Job {
+                number: job,
+                procedure,
+                arg,
+                done: None,
+            },
+        );
     }
 }
 
