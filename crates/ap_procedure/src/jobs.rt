@@ -8,13 +8,27 @@ use crate::token::{Token, TokenState};
 use crate::tokens::{MOST_TOKENS, Tokens};
 use smm_base::{NoMemory, Status};
 use std::alloc::{AllocError, Global};
+use std::fmt;
 use std::marker::Model;
 
 /// Why a job is not given.
-#[derive(Clone, Copy)]
+#[derive(Clone, Copy, Debug, PartialEq, Eq)]
 pub enum Refused {
     /// A token is asked for, and 64 are out.
     Tokens,
+}
+
+/// Writes `tokens`.
+impl fmt::Display for Refused {
+    ghost use Rattle.std.specs.Prelude.{Some, codes};
+
+    ghost output = { λ _. Some (codes "tokens") };
+
+    fn fmt<W: fmt::Write>(&self, f: &mut fmt::Formatter<W>) -> fmt::Result {
+        match self {
+            Refused::Tokens => f.write_str("tokens"),
+        }
+    }
 }
 
 /// The jobs that processors were given in a session, and the tokens by which they are asked for.

@@ -10,18 +10,41 @@ use crate::registration::Registration;
 use slab::Slab;
 use smm_base::{HandlerType, NoMemory};
 use std::alloc::Global;
+use std::fmt;
 use std::marker::Model;
 
 /// The most registrations that are live at once.
 pub const MOST_LIVE: usize = 64;
 
 /// 64 registrations are live, or each serial number was given.
-#[derive(Clone, Copy)]
+#[derive(Clone, Copy, Debug, PartialEq, Eq)]
 pub struct Full;
 
 /// No live registration has the serial number.
-#[derive(Clone, Copy)]
+#[derive(Clone, Copy, Debug, PartialEq, Eq)]
 pub struct Unknown;
+
+/// Writes `full`.
+impl fmt::Display for Full {
+    ghost use Rattle.std.specs.Prelude.{Some, codes};
+
+    ghost output = { λ _. Some (codes "full") };
+
+    fn fmt<W: fmt::Write>(&self, f: &mut fmt::Formatter<W>) -> fmt::Result {
+        f.write_str("full")
+    }
+}
+
+/// Writes `unknown`.
+impl fmt::Display for Unknown {
+    ghost use Rattle.std.specs.Prelude.{Some, codes};
+
+    ghost output = { λ _. Some (codes "unknown") };
+
+    fn fmt<W: fmt::Write>(&self, f: &mut fmt::Formatter<W>) -> fmt::Result {
+        f.write_str("unknown")
+    }
+}
 
 fn on_same_list(a: HandlerType, b: HandlerType) -> bool
     ensures { result ≡ is_same_list a b }

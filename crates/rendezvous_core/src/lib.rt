@@ -28,6 +28,3 @@ pub use serving::{Operation, ServingStep};
 pub use starting::start_fault;
 pub use stepped::Stepped;
 pub use world::World;
-
-#[cfg(test)]
-mod tests;

@@ -1,3 +1,4 @@
 pub mod Fields
 pub mod Images
 pub mod Padding
+pub mod Texts

@@ -7,6 +7,7 @@ ghost use Rattle.save_state_map.specs.Images.{IsImage, field_of, with_field, Acc
 use crate::field::Field;
 use byteorder::{ByteOrder, LittleEndian};
 use smm_base::MapKind;
+use std::fmt;
 use std::marker::Model;
 
 /// Why bytes are no image.
@@ -14,6 +15,20 @@ use std::marker::Model;
 pub enum ImageError {
     /// There are this many bytes, and the map wants another number.
     Length(usize),
+}
+
+/// Writes `length` and the number of bytes.
+impl fmt::Display for ImageError {
+    ghost use Rattle.std.specs.Prelude.{Some};
+    ghost use Rattle.save_state_map.specs.Texts.{image_error_text};
+
+    ghost output = { λ error. Some (image_error_text error) };
+
+    fn fmt<W: fmt::Write>(&self, f: &mut fmt::Formatter<W>) -> fmt::Result {
+        match self {
+            ImageError::Length(length) => write!(f, "length {length}"),
+        }
+    }
 }
 
 /// How many bytes an image of this map has: 512 or 1,024.

@@ -1,4 +1,5 @@
 pub mod Calls
+pub mod Errors
 pub mod Faults
 pub mod Kinds
 pub mod Register

@@ -24,6 +24,3 @@ pub use sink::{Sink, WriteError, write_all};
 pub use status::Status;
 pub use std_sink::StdSink;
 pub use store::{LoadError, SaveError, Store};
-
-#[cfg(test)]
-mod tests;

@@ -6,6 +6,7 @@ ghost use Rattle.smm_base.specs.declared.sink.WriteError.TheVariants.{NoMemory a
 
 use std::alloc::AllocError;
 use std::convert::From;
+use std::fmt;
 
 /// Why nothing was written.
 #[derive(Clone, Copy, Debug, PartialEq, Eq)]
@@ -13,6 +14,21 @@ pub enum WriteError {
     /// The outside failed.
     Failed,
     NoMemory,
+}
+
+/// Writes the cause: `failed` or `no memory`.
+impl fmt::Display for WriteError {
+    ghost use Rattle.std.specs.Prelude.{Some};
+    ghost use Rattle.smm_base.specs.Errors.{write_error_text};
+
+    ghost output = { λ error. Some (write_error_text error) };
+
+    fn fmt<W: fmt::Write>(&self, f: &mut fmt::Formatter<W>) -> fmt::Result {
+        f.write_str(match self {
+            WriteError::Failed => "failed",
+            WriteError::NoMemory => "no memory",
+        })
+    }
 }
 
 impl From<AllocError> for WriteError {

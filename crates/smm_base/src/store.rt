@@ -7,6 +7,7 @@ ghost use Rattle.smm_base.specs.declared.store.SaveError.TheVariants.{NoMemory a
 use crate::NoMemory;
 use std::alloc::{AllocError, AllocFailed, Global};
 use std::convert::From;
+use std::fmt;
 
 /// Why a file was not loaded.
 #[derive(Clone, Copy, Debug, PartialEq, Eq)]
@@ -28,11 +29,43 @@ pub enum SaveError {
     NoMemory,
 }
 
+/// Writes the cause: `failed`, `missing`, `too-long` or `no memory`.
+impl fmt::Display for LoadError {
+    ghost use Rattle.std.specs.Prelude.{Some};
+    ghost use Rattle.smm_base.specs.Errors.{load_error_text};
+
+    ghost output = { λ error. Some (load_error_text error) };
+
+    fn fmt<W: fmt::Write>(&self, f: &mut fmt::Formatter<W>) -> fmt::Result {
+        f.write_str(match self {
+            LoadError::Failed => "failed",
+            LoadError::Missing => "missing",
+            LoadError::TooLong => "too-long",
+            LoadError::NoMemory => "no memory",
+        })
+    }
+}
+
 impl From<AllocError> for LoadError {
     ghost from_gives = { λ _ error. error ≡ no_memory_of_load };
 
     fn from(_: AllocError) -> Self {
         LoadError::NoMemory
+    }
+}
+
+/// Writes the cause: `failed` or `no memory`.
+impl fmt::Display for SaveError {
+    ghost use Rattle.std.specs.Prelude.{Some};
+    ghost use Rattle.smm_base.specs.Errors.{save_error_text};
+
+    ghost output = { λ error. Some (save_error_text error) };
+
+    fn fmt<W: fmt::Write>(&self, f: &mut fmt::Formatter<W>) -> fmt::Result {
+        f.write_str(match self {
+            SaveError::Failed => "failed",
+            SaveError::NoMemory => "no memory",
+        })
     }
 }
 

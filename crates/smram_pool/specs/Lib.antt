@@ -5,5 +5,6 @@ pub mod Shelf
 pub mod Shelves
 pub mod State
 pub mod Taking
+pub mod Texts
 pub mod Together
 pub mod Views

@@ -2,11 +2,11 @@ ghost use Rattle.std.specs.Prelude.{◌≡◌, ◌<◌, ◌≤◌, ◌&&◌, All
 ghost use Rattle.std.specs.List.{IsDistinct, list_all};
 ghost use Rattle.cpu_table.specs.Ranges.{op_fits, handler_fits, waves_fit, wave_fits, handlers_fit, procedures_fit, causes_fit};
 
-use crate::{is_built, replay};
 use cpu_table::{
     Arrival, CauseAt, CpuTable, HandlerDef, HandlerType, Items, Mode, OpDef, Operand, Policy,
     ProcedureDef, Setup, Text, Wave,
 };
+use rendezvous_core::{is_built, replay};
 use save_state_map::{Field, Image};
 use smm_base::{After, Cause, IoCause, MapKind, NoMemory, Status};
 use std::alloc::Global;

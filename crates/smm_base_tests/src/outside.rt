@@ -1,4 +1,4 @@
-use crate::{
+use smm_base::{
     DirStore, Gate, LoadError, MemSink, MemStore, OpenGate, SaveError, Sink, Store, WriteError,
     write_all,
 };
