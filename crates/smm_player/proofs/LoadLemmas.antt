@@ -26,7 +26,7 @@ use Rattle.smm_player.specs.declared.fault.Fault.{Fault}
 use Rattle.smm_player.specs.declared.fault.Fault.TheVariants.{Refused, Write, Save, Memory}
 use Rattle.smm_player.specs.Fault.{platform_fault, images_fault, schedule_fault}
 use Rattle.smm_player.specs.Due.{Finding, and_then, or_refusal, loaded, file_due, if_built, platform_found, serving, judged, images_found, schedule_found, without, schedule_due, relocated_or, started, plan_with, IsDue, RefusalCause}
-use Rattle.rendezvous_core.specs.Starts.{start_refusal}
+use Rattle.one_processor.specs.Starts.{start_refusal}
 use Rattle.smbase_reloc.specs.declared.error.RelocError.{RelocError}
 use Rattle.smm_player.specs.declared.command.Step.{Step}
 use Rattle.smm_player.specs.Plan.{Plan, plan}

@@ -7,14 +7,14 @@ use Rattle.save_state_map.specs.Images.{ImageContents}
 use Rattle.sync_words.specs.declared.label.Label.{Label}
 use Rattle.cpu_regs.specs.Registers.{Registers}
 use Rattle.cpu_table.specs.Data.{SetupData}
-use Rattle.rendezvous_core.specs.Platform.{Platform as PlatformOf}
-use Rattle.rendezvous_core.specs.Setups.{platform_of, is_built, is_elected, is_traditional, is_one_wave, are_built_handlers}
+use Rattle.one_processor.specs.Platform.{Platform as PlatformOf}
+use Rattle.one_processor.specs.Setups.{platform_of, is_built, is_elected, is_traditional, is_one_wave, are_built_handlers}
 use Rattle.std.proofs.lemmas.Bool.{and_parts, eqb-true}
 use Rattle.std.proofs.lemmas.List.Elements.{All-head}
 use Rattle.std.specs.Prelude.{◌==◌, ◌&&◌, IsTrue, IsSomeAnd, MatchOption}
-use Rattle.rendezvous_core.specs.Starts.{first_registers, first_registers_of}
-use Rattle.rendezvous_core.specs.Worlds.{last_image}
-use Rattle.rendezvous_core.specs.Machine.{IsRun, beginning, machine_after, member, resumed_image}
+use Rattle.one_processor.specs.Starts.{first_registers, first_registers_of}
+use Rattle.one_processor.specs.Worlds.{last_image}
+use Rattle.one_processor.specs.Machine.{IsRun, beginning, machine_after, member, resumed_image}
 use Rattle.smm_player.specs.declared.command.Step.{Step}
 use Rattle.smm_player.specs.declared.command.Command.{Command}
 use Rattle.smm_player.specs.declared.command.Command.TheVariants as command

@@ -2,7 +2,7 @@
 use Rattle.std.proofs.Common.{◌≡◌, ℕ, List, Option, Result, Ok, Err, IfErr, ap, ◌∙◌}
 use Rattle.smm_base.specs.Sink.{appended, GainsPrefix-whole}
 use Rattle.sync_words.specs.declared.event.Event.{Event}
-use Rattle.rendezvous_core.specs.Worlds.{World, is_complete}
+use Rattle.one_processor.specs.Worlds.{World, is_complete}
 use Rattle.smm_player.specs.Plan.{Plan, events_of, world_of, report_of}
 use Rattle.smm_player.specs.declared.fault.Fault.{Fault}
 use Rattle.smm_player.specs.declared.fault.Fault.TheVariants.{Refused, Write, Save, Memory}

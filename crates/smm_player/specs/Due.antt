@@ -12,8 +12,8 @@ use Rattle.cpu_table.specs.Data.{SetupData}
 use Rattle.platform_file.specs.Walk.{setup_read}
 use Rattle.schedule_file.specs.Schedule.{schedule_of}
 use Rattle.smbase_reloc.specs.declared.error.RelocError.{RelocError}
-use Rattle.rendezvous_core.specs.Setups.{is_built}
-use Rattle.rendezvous_core.specs.Starts.{start_refusal}
+use Rattle.one_processor.specs.Setups.{is_built}
+use Rattle.one_processor.specs.Starts.{start_refusal}
 use Rattle.smm_player.specs.declared.command.Step.{Step}
 use Rattle.smm_player.specs.declared.images.ImagesFault.TheVariants as fault
 use Rattle.smm_player.specs.declared.refusal.Refusal.{Refusal}

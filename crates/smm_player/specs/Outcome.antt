@@ -3,7 +3,7 @@ use Rattle.std.specs.Prelude.{ℕ, ◌≡◌, List, Option, Some, IfSome, Ok}
 use Rattle.std.specs.Option.{option_map}
 use Rattle.smm_base.specs.Store.{FileMap}
 use Rattle.save_state_map.specs.Images.{ImageContents}
-use Rattle.rendezvous_core.specs.Worlds.{last_image}
+use Rattle.one_processor.specs.Worlds.{last_image}
 use Rattle.smm_player.specs.declared.command.Step.{Step}
 use Rattle.smm_player.specs.declared.command.Command.{Command}
 use Rattle.smm_player.specs.declared.command.Command.TheVariants as command

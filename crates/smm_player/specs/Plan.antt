@@ -6,9 +6,9 @@ use Rattle.cpu_regs.specs.Registers.{Registers}
 use Rattle.cpu_table.specs.Data.{SetupData, data_of}
 use Rattle.sync_words.specs.declared.event.Event.{Event}
 use Rattle.sync_words.specs.declared.label.Label.{Label}
-use Rattle.rendezvous_core.specs.Setups.{platform_of, is_built, AreImagesOf}
-use Rattle.rendezvous_core.specs.Starts.{first_registers, start_refusal}
-use Rattle.rendezvous_core.specs.Worlds.{World, replay_events, replay_world, is_complete, labels}
+use Rattle.one_processor.specs.Setups.{platform_of, is_built, AreImagesOf}
+use Rattle.one_processor.specs.Starts.{first_registers, start_refusal}
+use Rattle.one_processor.specs.Worlds.{World, replay_events, replay_world, is_complete, labels}
 use Rattle.smm_player.specs.declared.inputs.Inputs.{Inputs}
 use Rattle.smm_player.specs.Report.{report_text}
 

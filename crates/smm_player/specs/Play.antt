@@ -3,9 +3,9 @@ use Rattle.std.specs.Prelude.{ℕ, ◌≡◌, ◌≢◌, ◌==◌, ◌⊎◌, Bo
 use Rattle.smm_base.specs.Sink.{appended, GainsPrefix}
 use Rattle.smm_base.specs.Store.{FileMap, ChangesOnly}
 use Rattle.save_state_map.specs.Images.{ImageContents}
-use Rattle.rendezvous_core.specs.Machine.{IsRun, beginning, resumed_image}
-use Rattle.rendezvous_core.specs.Setups.{platform_of}
-use Rattle.rendezvous_core.specs.Starts.{first_registers_of}
+use Rattle.one_processor.specs.Machine.{IsRun, beginning, resumed_image}
+use Rattle.one_processor.specs.Setups.{platform_of}
+use Rattle.one_processor.specs.Starts.{first_registers_of}
 use Rattle.smm_player.specs.declared.command.Step.{Step}
 use Rattle.smm_player.specs.declared.command.Command.{Command}
 use Rattle.smm_player.specs.declared.command.Command.TheVariants as command

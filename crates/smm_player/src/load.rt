@@ -2,7 +2,7 @@ ghost use Rattle.std.specs.Prelude.{◌≡◌, ◌≤◌, ◌<◌, Ok, All, IfEr
 ghost use Rattle.smm_base.specs.Calls.{Leads};
 ghost use Rattle.smm_base.specs.Faults.{Rose};
 ghost use Rattle.cpu_table.specs.Data.{data_of};
-ghost use Rattle.rendezvous_core.specs.Setups.{is_built, AreImagesOf};
+ghost use Rattle.one_processor.specs.Setups.{is_built, AreImagesOf};
 ghost use Rattle.smm_player.specs.declared.refusal.Refusal.TheVariants.{Read as read, TooLong as too_long, NotBuilt as not_built};
 ghost use Rattle.smm_player.specs.Plan.{plan_of, IsPlayable};
 ghost use Rattle.smm_player.specs.Due.{loaded, if_built, platform_found, platform_due, images_found, images_due, schedule_found, schedule_due, plan_with, plan_on, plan_due, IsDue};
@@ -15,8 +15,8 @@ use crate::inputs::Inputs;
 use crate::refusal::Refusal;
 use cpu_table::{Setup, Text};
 use image_file::read_images;
+use one_processor::{is_built, start_fault};
 use platform_file::{read_platform, read_schedule};
-use rendezvous_core::{is_built, start_fault};
 use save_state_map::Image;
 use smm_base::{LoadError, MapKind, Store};
 use std::alloc::Global;

@@ -15,7 +15,7 @@ use crate::ending::{end_without_memory, finish, tell};
 use crate::fault::Fault;
 use crate::load::load_inputs;
 use crate::step::replay_inputs;
-use rendezvous_core::every_schedule;
+use one_processor::every_schedule;
 use smm_base::{Sink, Store};
 use std::alloc::Global;
 
