@@ -10,3 +10,5 @@ pub mod Procedures
 pub mod Sessions
 pub mod Progresses
 pub mod Told
+pub mod NextRow
+pub mod Answering

@@ -1,0 +1,85 @@
+-- The chipset, row by row: it announces each wave, sends its interrupts, and waits until it was served; after the last wave it turns
+-- all signals off. The chipset as an actor is the project's own.
+use Rattle.std.specs.Prelude.{ℕ, zero, suc, ◌+◌, ◌==◌, nat_le, nat_lt, Bool, true, false, if◌then◌else◌, List, [], length, slice_get, slice_index_or, Option, Some, None}
+use Rattle.std.specs.List.{count_by}
+use Rattle.cpu_table.specs.Data.{SetupData}
+use Rattle.cpu_table.specs.declared.waves.Arrival.{Arrival}
+use Rattle.cpu_table.specs.declared.waves.Arrival.TheVariants.{Prompt, Delayed, Blocked, Absent}
+use Rattle.cpu_table.specs.declared.waves.Wave.{Wave}
+use Rattle.sync_words.specs.declared.access.Access.TheVariants.{Put, Await, Raise}
+use Rattle.sync_words.specs.declared.event.Want.{Want}
+use Rattle.sync_words.specs.declared.event.Want.TheVariants as want
+use Rattle.sync_words.specs.declared.label.Label.TheVariants as say
+use Rattle.sync_words.specs.declared.row.Row.{Row}
+use Rattle.sync_words.specs.declared.row.Row.TheVariants as row
+use Rattle.sync_words.specs.declared.signal.TheConstants.{DELIVERABLE, HELD, BLOCKED, OFF}
+use Rattle.sync_words.specs.declared.word.WordId.TheVariants.{Inside, Source, Except, Pend}
+use Rattle.sync_words.specs.Steps.{Taken, says, wants, looks_at}
+use Rattle.cpu_program.specs.Actors.{Chipset}
+
+-- what each processor does as the interrupt of this wave comes, the waves counted from 1
+abbrev pub arrivals_in : Option Wave → List Arrival
+arrivals_in None = []
+arrivals_in (Some wave) = wave.status
+
+abbrev pub arrivals_of : List Wave → ℕ → List Arrival
+arrivals_of waves zero = []
+arrivals_of waves (suc n) = arrivals_in (slice_get waves n)
+
+abbrev pub is_blocked : Arrival → Bool
+is_blocked Blocked = true
+is_blocked _ = false
+
+-- how many processors the wave blocks
+abbrev pub blocked_in : List Wave → ℕ → ℕ
+blocked_in waves w = count_by is_blocked (arrivals_of waves w)
+
+-- the signal that a processor gets
+abbrev pub signal_for : Arrival → ℕ
+signal_for Prompt = DELIVERABLE
+signal_for Delayed = HELD
+signal_for Blocked = BLOCKED
+signal_for Absent = BLOCKED
+
+abbrev pub signal_in : List Wave → ℕ → ℕ → ℕ
+signal_in waves w cpu = signal_for (slice_index_or (arrivals_of waves w) cpu Absent)
+
+abbrev pub at_wave_row : Row → Chipset → Chipset
+at_wave_row r c = record c { row = Some r }
+
+-- the row of the next processor of a loop, or what comes after it
+abbrev pub to_raise : ℕ → Chipset → Chipset
+to_raise cpu c = at_wave_row (if nat_lt cpu c.setup.processors then row.RaiseWave cpu else row.WatchSource 0) c
+
+abbrev pub to_off : ℕ → Chipset → Chipset
+to_off cpu c = record c { row = if nat_lt cpu c.setup.processors then Some (row.RaiseOff cpu) else None }
+
+-- after a wave the next one is announced; after the last the signals are turned off
+abbrev pub after_wave : Chipset → Chipset
+after_wave c =
+    if nat_lt c.wave (length c.setup.waves) then record c { row = Some row.AnnounceBlocked; wave = c.wave + 1 } else to_off 0 c
+
+-- what the chipset wants at a row
+abbrev pub want_at : Row → Chipset → Want
+want_at row.AnnounceBlocked c = wants Except (Put (blocked_in c.setup.waves c.wave))
+want_at row.AnnounceWave c = wants Source (Put c.wave)
+want_at (row.RaiseWave cpu) c = wants (Pend cpu) (Raise (signal_in c.setup.waves c.wave cpu))
+want_at (row.WatchSource looks) c = looks_at Source
+want_at row.AwaitServed c = wants Inside (Await 0 0)
+want_at (row.RaiseOff cpu) c = wants (Pend cpu) (Raise OFF)
+want_at _ c = want.Off
+
+-- a look for the wave to be taken; both rounds of looks are its time
+abbrev pub is_watched : Chipset → ℕ → ℕ → Bool
+is_watched c looks found = if found == 0 then true else nat_le (c.setup.t1 + c.setup.t2) (looks + 1)
+
+-- what the event at a row says by the number found, and the chipset after it
+abbrev pub taken_at : Row → Chipset → ℕ → Taken Chipset
+taken_at row.AnnounceBlocked c found = says (say.Excepted (blocked_in c.setup.waves c.wave)) (at_wave_row row.AnnounceWave c)
+taken_at row.AnnounceWave c found = says (say.Wave c.wave) (to_raise 0 c)
+taken_at (row.RaiseWave cpu) c found = says say.Silent (to_raise (cpu + 1) c)
+taken_at (row.WatchSource looks) c found =
+    says say.Silent (at_wave_row (if is_watched c looks found then row.AwaitServed else row.WatchSource (looks + 1)) c)
+taken_at row.AwaitServed c found = says say.Silent (after_wave c)
+taken_at (row.RaiseOff cpu) c found = says say.Silent (to_off (cpu + 1) c)
+taken_at _ c found = says say.Silent c

@@ -1,0 +1,109 @@
+-- A program: what its actor wants, what changes hands, and what its event says.
+use Rattle.std.specs.Prelude.{ℕ, ◌==◌, Bool, true, false, if◌then◌else◌, length, replicate, slice_set, Option, Some, None, is_some, is_none}
+use Rattle.save_state_map.specs.Images.{ImageContents}
+use Rattle.cpu_regs.specs.Registers.{Registers}
+use Rattle.cpu_table.specs.Data.{SetupData}
+use Rattle.sync_words.specs.declared.event.Hand.{Hand}
+use Rattle.sync_words.specs.declared.event.Hand.TheVariants.{Nothing, Give, Take}
+use Rattle.sync_words.specs.declared.event.Want.{Want}
+use Rattle.sync_words.specs.declared.event.Want.TheVariants as want
+use Rattle.sync_words.specs.declared.row.Row.{Row}
+use Rattle.sync_words.specs.declared.row.Row.TheVariants as row
+use Rattle.sync_words.specs.declared.label.Label.TheVariants as say
+use Rattle.sync_words.specs.Steps.{Taken, says, hand_of}
+use Rattle.handler_ops.specs.Sessions.{Session}
+use Rattle.cpu_program.specs.Actors.{Processor, Chipset, Actor, OfProcessor, OfChipset, Cargo, Between}
+use Rattle.cpu_program.specs.Processors as processor
+use Rattle.cpu_program.specs.Chipsets as chipset
+use Rattle.cpu_program.specs.Hands.{thing_given, after_giving, after_receiving}
+
+-- THE START
+
+-- a processor waits for its interrupt, with its own desk, which has its image and no job
+abbrev pub first_processor : SetupData → ℕ → ImageContents → Registers → Option Session → Processor
+first_processor d me image registers chair =
+    record {
+      setup = d;
+      me = me;
+      part = Between row.AwaitSmi;
+      visits = 0;
+      wave = 0;
+      bsp = 0;
+      registers = registers;
+      last = image;
+      held = slice_set (replicate d.processors None) me (Some (record { image = image; job = None }));
+      chair = chair;
+      ran = None;
+    }
+
+-- the chipset announces the first wave
+abbrev pub first_chipset : SetupData → Chipset
+first_chipset d = record { setup = d; row = Some row.AnnounceBlocked; wave = 1 }
+
+-- WANTS
+
+abbrev pub want_at_row : Option Row → Chipset → Want
+want_at_row None c = want.Off
+want_at_row (Some r) c = chipset.want_at r c
+
+-- what an actor wants: an access to a word with what changes hands, or nothing where it is off
+abbrev pub want_of : Actor → Want
+want_of (OfProcessor p) = processor.want_in p.part p
+want_of (OfChipset c) = want_at_row c.row c
+
+-- EVENTS
+
+abbrev pub processor_taken : Taken Processor → Taken Actor
+processor_taken t = says t.label (OfProcessor t.after)
+
+abbrev pub chipset_taken : Taken Chipset → Taken Actor
+chipset_taken t = says t.label (OfChipset t.after)
+
+abbrev pub taken_at_row : Option Row → Chipset → ℕ → Taken Chipset
+taken_at_row None c found = says say.Silent c
+taken_at_row (Some r) c found = chipset.taken_at r c found
+
+-- what the event says by the number found, and the actor after it; what changes hands has done so
+abbrev pub taken : Actor → ℕ → Taken Actor
+taken (OfProcessor p) found = processor_taken (processor.taken_in p.part p found)
+taken (OfChipset c) found = chipset_taken (taken_at_row c.row c found)
+
+-- HANDS
+
+-- what the wanted hand gives, where the actor has it
+abbrev pub gift_of_hand : Hand → Processor → Option Cargo
+gift_of_hand (Give k) p = thing_given p k
+gift_of_hand _ p = None
+
+abbrev pub gift_of : Actor → Option Cargo
+gift_of (OfProcessor p) = gift_of_hand (hand_of (want_of (OfProcessor p))) p
+gift_of (OfChipset c) = None
+
+abbrev pub given_by_hand : Hand → Processor → Processor
+given_by_hand (Give k) p = after_giving p k
+given_by_hand _ p = p
+
+-- the actor after it gave what it wanted to give
+abbrev pub given : Actor → Actor
+given (OfProcessor p) = OfProcessor (given_by_hand (hand_of (want_of (OfProcessor p))) p)
+given (OfChipset c) = OfChipset c
+
+abbrev pub received_by_hand : Hand → Cargo → Processor → Processor
+received_by_hand (Take k) cargo p = after_receiving p k cargo
+received_by_hand _ cargo p = p
+
+-- the actor after it received what it wanted to take
+abbrev pub received : Cargo → Actor → Actor
+received cargo (OfProcessor p) = OfProcessor (received_by_hand (hand_of (want_of (OfProcessor p))) cargo p)
+received cargo (OfChipset c) = OfChipset c
+
+-- THE END
+
+-- the image of the last resume, or the first image of a processor
+abbrev pub last_of : Actor → Option ImageContents
+last_of (OfProcessor p) = Some p.last
+last_of (OfChipset c) = None
+
+abbrev pub number_of : Actor → ℕ
+number_of (OfProcessor p) = p.me
+number_of (OfChipset c) = c.setup.processors

@@ -1,0 +1,10 @@
+use handler_ops::{Desk, Server};
+
+/// What changes hands at an access.
+#[derive(Drop)]
+pub enum Cargo {
+    /// A processor's image and job.
+    Desk(Desk),
+    /// The state of serving, which the BSP has.
+    Chair(Server),
+}

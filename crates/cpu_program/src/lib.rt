@@ -1,0 +1,9 @@
+// What each actor does: a processor from its interrupt to its resume, and the chipset. A program tells the access that it
+// wants, is told what the access found, and answers with the event.
+#![tactic(auto)]
+
+mod cargo;
+mod part;
+
+pub use cargo::Cargo;
+pub use part::Part;

@@ -1,0 +1,48 @@
+-- What the answer of a need makes of a session and of the desks.
+use Rattle.std.specs.Prelude.{ℕ, ◌≡◌, ◌==◌, if◌then◌else◌, slice_set, Option, Some, None, option_map}
+use Rattle.handler_ops.specs.declared.desk.Desk.{Desk}
+use Rattle.handler_ops.specs.declared.row.Row.{Row}
+use Rattle.handler_ops.specs.declared.row.Row.TheVariants as row
+use Rattle.handler_ops.specs.Course.{Desks, Move, Step, desk_of, moved, write_of}
+use Rattle.handler_ops.specs.NextRow.{row_of}
+use Rattle.handler_ops.specs.Sessions.{Session, setting_of}
+use Rattle.handler_ops.specs.Told.{step_as, handed_as}
+
+-- the job of a processor is taken off its desk
+abbrev pub without_job : Desk → Desk
+without_job desk = record desk { job = None }
+
+abbrev pub taken_off : ℕ → Desks → Desks
+taken_off c held = slice_set held c (option_map without_job (desk_of held c))
+
+-- the low bytes of a number are written to a register of the image on a desk; where the service refuses, it stays
+abbrev pub written_on : ℕ → ℕ → ℕ → Desk → Desk
+written_on reg width x desk = record desk { image = (write_of true desk.image reg width x).image }
+
+abbrev pub written : ℕ → ℕ → ℕ → ℕ → Desks → Desks
+written c reg width x held = slice_set held c (option_map (written_on reg width x) (desk_of held c))
+
+-- The desks after a need was answered by this number: the job of a desk that came is taken off it, and a write changes the image at
+-- hand.
+abbrev pub kept_as : Row → ℕ → Desks → Desks
+kept_as (row.ClaimingJob c l) found held = if found == 2 then taken_off c held else held
+kept_as (row.AwaitingJob c) found held = taken_off c held
+kept_as (row.Writing c reg width x) found held = written c reg width x held
+kept_as _ found held = held
+
+-- what the row that was told makes of the number found, with the desks that are held then
+abbrev pub move_as : Session → ℕ → Desks → Move
+move_as s found held = (step_as (setting_of s) s.course.place.state s.told).on found held
+
+-- a session whose next need is told
+abbrev pub told_on : Desks → Session → Session
+told_on held s = record s { told = row_of (setting_of s) held s.course }
+
+-- a session whose need was answered
+abbrev pub answered : Move → Desks → Session → Session
+answered m held s = record s { course = moved (setting_of s) s.course m held; told = row.Finished }
+
+-- the need that is unanswered was told by the session's course, with some desks held
+pub record HasTold (s : Session) : Type 0 where
+  pub held : Desks
+  pub told : s.told ≡ row_of (setting_of s) held s.course
