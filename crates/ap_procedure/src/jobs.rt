@@ -1,4 +1,4 @@
-ghost use Rattle.std.specs.Prelude.{◌≡◌, ◌+◌, ◌<◌, ◌≤◌, ◌-◌, ◌↔◌, true, IsTrue, IsSome, IsErr, IfOk, OnOk, OnErr, length, replicate, vec_len, slice_index_or, slice_set, Some, None};
+ghost use Rattle.std.specs.Prelude.{◌≡◌, ◌+◌, ◌<◌, ◌≤◌, ◌-◌, ◌↔◌, true, IsTrue, IsSome, IsErr, IfOk, OnOk, OnErr, length, replicate, slice_index_or, Some, None};
 ghost use Rattle.ap_procedure.specs.declared.token.Token.{Token};
 ghost use Rattle.ap_procedure.specs.declared.token.TokenState.TheVariants.{Open};
 ghost use Rattle.ap_procedure.specs.Steps.{AreGiven};

@@ -1,4 +1,4 @@
-ghost use Rattle.std.specs.Prelude.{◌≡◌, ◌<◌, None, IsNone};
+ghost use Rattle.std.specs.Prelude.{◌≡◌, ◌<◌, None};
 ghost use Rattle.sync_words.specs.Steps.{Accepts, IsWantWithin, found_of};
 ghost use Rattle.arrival.specs.Entry.{after_arrival, entry_of, left_of, taken, want_of};
 

@@ -2,7 +2,6 @@
 -- all signals off. The chipset as an actor is the project's own.
 use Rattle.std.specs.Prelude.{ℕ, zero, suc, ◌+◌, ◌==◌, nat_le, nat_lt, Bool, true, false, if◌then◌else◌, List, [], length, slice_get, slice_index_or, Option, Some, None}
 use Rattle.std.specs.List.{count_by}
-use Rattle.cpu_table.specs.Data.{SetupData}
 use Rattle.cpu_table.specs.declared.waves.Arrival.{Arrival}
 use Rattle.cpu_table.specs.declared.waves.Arrival.TheVariants.{Prompt, Delayed, Blocked, Absent}
 use Rattle.cpu_table.specs.declared.waves.Wave.{Wave}

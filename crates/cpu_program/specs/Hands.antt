@@ -1,11 +1,8 @@
 -- What changes hands: how a processor gives and receives.
-use Rattle.std.specs.Prelude.{ℕ, ◌==◌, Bool, true, false, if◌then◌else◌, List, slice_set, Option, Some, None, is_some}
+use Rattle.std.specs.Prelude.{ℕ, ◌==◌, Bool, true, false, if◌then◌else◌, slice_set, Option, Some, None}
 use Rattle.smm_base.specs.declared.kinds.MapKind.{MapKind}
 use Rattle.smm_base.specs.declared.kinds.MapKind.TheVariants.{Ia32, Intel64}
 use Rattle.cpu_table.specs.Data.{SetupData}
-use Rattle.sync_words.specs.declared.event.Hand.{Hand}
-use Rattle.sync_words.specs.declared.event.Hand.TheVariants.{Nothing, Give, Take}
-use Rattle.sync_words.specs.declared.row.Row.{Row}
 use Rattle.sync_words.specs.declared.row.Row.TheVariants as row
 use Rattle.handler_ops.specs.declared.desk.Desk.{Desk}
 use Rattle.handler_ops.specs.declared.desk.Job.{Job}

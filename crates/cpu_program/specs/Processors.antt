@@ -1,14 +1,12 @@
 -- The rows between the parts, and how a processor goes from one part to the next. The rows are the project's own, after EDK II's
 -- PiSmmCpuDxeSmm (`SmiRendezvous`, `BSPHandler`, `APHandler`) in outline.
-use Rattle.std.specs.Prelude.{ℕ, ◌+◌, ◌==◌, ◌&&◌, nat_le, nat_lt, not, Bool, true, false, if◌then◌else◌, List, length, map, slice_set, slice_index_or, Option, Some, None, is_none, is_some, option_map}
+use Rattle.std.specs.Prelude.{ℕ, ◌+◌, ◌==◌, ◌&&◌, nat_le, nat_lt, Bool, true, false, if◌then◌else◌, List, length, map, slice_set, Option, Some, None, is_none, option_map}
 use Rattle.std.specs.List.{find, range_with_len}
 use Rattle.smm_base.specs.declared.kinds.After.TheVariants.{Next}
 use Rattle.smm_base.specs.declared.kinds.Cause.{Cause}
-use Rattle.smm_base.specs.declared.kinds.MapKind.{MapKind}
 use Rattle.smm_base.specs.declared.kinds.Policy.{Policy}
 use Rattle.smm_base.specs.declared.kinds.Policy.TheVariants.{Elected, Fixed}
 use Rattle.smm_base.specs.declared.status.Status.{Status}
-use Rattle.save_state_map.specs.Images.{ImageContents}
 use Rattle.cpu_regs.specs.Registers.{loaded}
 use Rattle.cpu_regs.specs.Entering.{saved, after}
 use Rattle.cpu_table.specs.Data.{SetupData}
@@ -16,8 +14,7 @@ use Rattle.cpu_table.specs.declared.setup.CauseAt.{CauseAt}
 use Rattle.cpu_table.specs.declared.setup.Mode.{Mode}
 use Rattle.cpu_table.specs.declared.setup.Mode.TheVariants.{Traditional, Relaxed}
 use Rattle.sync_words.specs.declared.access.Access.TheVariants.{Put, Up, Down, Claim, Await, TakeSmi, ClearSmi}
-use Rattle.sync_words.specs.declared.event.Hand.{Hand}
-use Rattle.sync_words.specs.declared.event.Hand.TheVariants.{Nothing, Give, Take}
+use Rattle.sync_words.specs.declared.event.Hand.TheVariants.{Give, Take}
 use Rattle.sync_words.specs.declared.event.Want.{Want}
 use Rattle.sync_words.specs.declared.event.Want.TheVariants as want
 use Rattle.sync_words.specs.declared.label.Label.{Label}
@@ -38,7 +35,6 @@ use Rattle.handler_ops.specs.declared.need.Need.{Need}
 use Rattle.handler_ops.specs.declared.need.Need.TheVariants as need
 use Rattle.handler_ops.specs.Serving.{seat}
 use Rattle.handler_ops.specs.Course.{is_held, desk_of, label_of, has_job}
-use Rattle.handler_ops.specs.Procedures.{Ran, job_on, desk_with}
 use Rattle.handler_ops.specs.Sessions.{Session, begun_session}
 use Rattle.handler_ops.specs.Told.{need_as, handed_as}
 use Rattle.handler_ops.specs.Answering.{taken_off, move_as, kept_as, told_on, answered}

@@ -1,10 +1,10 @@
 -- A program: what its actor wants, what changes hands, and what its event says.
-use Rattle.std.specs.Prelude.{ℕ, ◌==◌, Bool, true, false, if◌then◌else◌, length, replicate, slice_set, Option, Some, None, is_some, is_none}
+use Rattle.std.specs.Prelude.{ℕ, ◌==◌, if◌then◌else◌, replicate, slice_set, Option, Some, None}
 use Rattle.save_state_map.specs.Images.{ImageContents}
 use Rattle.cpu_regs.specs.Registers.{Registers}
 use Rattle.cpu_table.specs.Data.{SetupData}
 use Rattle.sync_words.specs.declared.event.Hand.{Hand}
-use Rattle.sync_words.specs.declared.event.Hand.TheVariants.{Nothing, Give, Take}
+use Rattle.sync_words.specs.declared.event.Hand.TheVariants.{Give, Take}
 use Rattle.sync_words.specs.declared.event.Want.{Want}
 use Rattle.sync_words.specs.declared.event.Want.TheVariants as want
 use Rattle.sync_words.specs.declared.row.Row.{Row}

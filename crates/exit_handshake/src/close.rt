@@ -1,7 +1,7 @@
 ghost use Rattle.std.specs.Prelude.{◌≡◌, ◌<◌, ◌≤◌, ◌^◌, None};
 ghost use Rattle.sync_words.specs.Steps.{found_of, next_below, Accepts, IsWantWithin};
 ghost use Rattle.exit_handshake.specs.Desks.{desks_of};
-ghost use Rattle.exit_handshake.specs.Close.{lacks, after_close, to_desks, to_reports, want_of, go, taken, left_of, IsClose, close_of};
+ghost use Rattle.exit_handshake.specs.Close.{lacks, to_desks, to_reports, want_of, go, taken, left_of, IsClose, close_of};
 
 use crate::desks::Desks;
 use crate::wanted::wants;

@@ -1,5 +1,4 @@
 ghost use Rattle.std.specs.Prelude.{◌≡◌, ◌<◌, ◌≤◌, ◌^◌, None};
-ghost use Rattle.std.specs.List.{count_by, range_with_len};
 ghost use Rattle.sync_words.specs.Steps.{found_of, next_below, Accepts, IsWantWithin};
 ghost use Rattle.exit_handshake.specs.Desks.{desks_of};
 ghost use Rattle.exit_handshake.specs.Exit.{is_ap, ap_count, after_rounds, to_releases, to_released, to_dismissals, to_dismissed, want_of, go, taken, left_of, IsExit, exit_of};

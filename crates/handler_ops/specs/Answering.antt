@@ -1,12 +1,12 @@
 -- What the answer of a need makes of a session and of the desks.
-use Rattle.std.specs.Prelude.{ℕ, ◌≡◌, ◌==◌, if◌then◌else◌, slice_set, Option, Some, None, option_map}
+use Rattle.std.specs.Prelude.{ℕ, ◌≡◌, ◌==◌, if◌then◌else◌, slice_set, None, option_map}
 use Rattle.handler_ops.specs.declared.desk.Desk.{Desk}
 use Rattle.handler_ops.specs.declared.row.Row.{Row}
 use Rattle.handler_ops.specs.declared.row.Row.TheVariants as row
-use Rattle.handler_ops.specs.Course.{Desks, Move, Step, desk_of, moved, write_of}
+use Rattle.handler_ops.specs.Course.{Desks, Move, desk_of, moved, write_of}
 use Rattle.handler_ops.specs.NextRow.{row_of}
 use Rattle.handler_ops.specs.Sessions.{Session, setting_of}
-use Rattle.handler_ops.specs.Told.{step_as, handed_as}
+use Rattle.handler_ops.specs.Told.{step_as}
 
 -- the job of a processor is taken off its desk
 abbrev pub without_job : Desk → Desk

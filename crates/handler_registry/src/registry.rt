@@ -1,7 +1,7 @@
 ghost use Rattle.std.specs.Prelude.{◌≡◌, ◌+◌, ◌↔◌, IsTrue, IsErr, IfOk, OnOk, OnErr};
 ghost use Rattle.std.specs.Prelude.{position, false, IfNone, All};
 ghost use Rattle.std.specs.List.{find};
-ghost use Rattle.std.specs.Option.{option_map, option_map_or};
+ghost use Rattle.std.specs.Option.{option_map_or};
 ghost use Rattle.slab.specs.Slab.{get};
 ghost use Rattle.handler_registry.specs.Order.{values_at};
 ghost use Rattle.handler_registry.specs.Registrations.{is_same_list, has_serial, is_on_after, no_registrations, is_live, is_full, registered, unregistered, handler_at, next_of, IsRegistered};

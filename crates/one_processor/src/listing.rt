@@ -1,4 +1,4 @@
-ghost use Rattle.std.specs.Prelude.{◌≡◌, ◌≤◌, ◌<◌, [], ◌∷◌, ◌++◌, IsTrue, IfOk, filter_map, map, take, length};
+ghost use Rattle.std.specs.Prelude.{◌≡◌, ◌≤◌, ◌<◌, [], ◌∷◌, ◌++◌, IsTrue, IfOk, filter_map, map, take};
 ghost use Rattle.smm_base.specs.declared.kinds.HandlerType.TheVariants.{Root};
 ghost use Rattle.cpu_table.specs.Data.{data_of};
 ghost use Rattle.one_processor.specs.declared.serving.ServingStep.TheVariants.{Say, Do};

@@ -1,17 +1,16 @@
 -- The bytes of a file and the platform that they stand for.
-use Rattle.std.proofs.Common.{◌≡◌, ℕ, Bool, true, false, List, Option, Some, None, Result, Ok, Err, refl, ap, sym, ◌∙◌, if◌then◌else◌}
+use Rattle.std.proofs.Common.{◌≡◌, ℕ, Bool, true, false, List, Option, Some, None, Ok, Err, refl, ap, sym, ◌∙◌, if◌then◌else◌}
 use Rattle.std.specs.Str.{is_utf8}
-use Rattle.std.proofs.lemmas.Option.{same_Some, none-some}
+use Rattle.std.proofs.lemmas.Option.{none-some}
 use Rattle.toml.specs.Data.{Members}
 use Rattle.toml.specs.Parse.{parse_document}
 use Rattle.cpu_table.specs.Data.{SetupData}
-use Rattle.platform_file.specs.declared.error.PlatformError.{PlatformError}
 use Rattle.platform_file.specs.declared.error.PlatformError.TheVariants as error
 use Rattle.platform_document.specs.Reading.{Reading}
 use Rattle.platform_file.specs.Walk.{setup_at, error_of, told, document_of, platform_in, setup_read}
-use Rattle.platform_laws.specs.Platform.{IsDocument, StandsFor}
+use Rattle.platform_laws.specs.Platform.{StandsFor}
 use Rattle.platform_laws.proofs.Readings.{err_ok, same_ok}
-use Rattle.platform_laws.proofs.Whole.{setup_said, setup_is_read, setup_is_one}
+use Rattle.platform_laws.proofs.Whole.{setup_said, setup_is_read}
 
 told_ok : {A : Type 0} (r : Reading A) (x : A) → told r ≡ Ok x → r ≡ Ok x
 told_ok (Ok y) x is = ap Ok (same_ok y x is)

@@ -1,14 +1,14 @@
 -- What fits element by element fits as a whole, and the other way round.
-use Rattle.std.proofs.Common.{◌≡◌, ℕ, ◌≤◌, Bool, true, false, not, ◌&&◌, ◌||◌, List, [], ◌∷◌, ◌++◌, length, map, Option, Some, None, Ok, Err, refl, ap, sym, subst, ◌∙◌, arith}
+use Rattle.std.proofs.Common.{◌≡◌, ℕ, ◌≤◌, Bool, true, false, not, ◌&&◌, ◌||◌, List, [], ◌∷◌, ◌++◌, length, Option, Some, None, Ok, refl, ap, sym, subst, ◌∙◌, arith}
 use Rattle.std.specs.Prelude.{MatchOption}
 use Rattle.std.specs.List.{list_any, list_all}
 use Rattle.std.proofs.lemmas.Bool.{and_parts, and_from, false≢true}
 use Rattle.cpu_table.specs.Distinct.{are_distinct}
-use Rattle.toml.specs.Data.{Data, array, Items, Members, get_member}
+use Rattle.toml.specs.Data.{Data, Members}
 use Rattle.platform_document.specs.declared.path.Path.{Path}
 use Rattle.platform_document.specs.Path.{key_text}
-use Rattle.platform_document.specs.Reading.{Reading, read_then, data_list, list_of, list_at, entries_of, entries_at, found_at, each}
-use Rattle.platform_laws.specs.Values.{EachSays, IsListOf, SaysList, SaysOr}
+use Rattle.platform_document.specs.Reading.{Reading, read_then, data_list, list_of, list_at, entries_of, each}
+use Rattle.platform_laws.specs.Values.{IsListOf, SaysList}
 use Rattle.platform_laws.proofs.Readings.{split, joined, same_ok, list_value_said, list_value_read, list_said, list_read}
 use Rattle.platform_laws.proofs.Lists.{EachFits, each_said, each_read, each_count}
 

@@ -1,18 +1,17 @@
 -- The keys of the top table.
-use Rattle.std.proofs.Common.{◌≡◌, ℕ, zero, suc, pos, ◌+◌, ◌-◌, ◌<◌, ◌≤◌, Bool, true, false, not, ◌&&◌, ◌||◌, ◌==◌, nat_lt, nat_le, List, [], ◌∷◌, ◌++◌, length, Option, Some, None, Ok, Err, refl, ap, sym, subst, ◌∙◌, codes, le-leb, lt-ltb, if◌then◌else◌, arith}
+use Rattle.std.proofs.Common.{◌≡◌, ℕ, zero, suc, pos, ◌+◌, ◌-◌, ◌<◌, ◌≤◌, Bool, true, false, not, ◌&&◌, ◌||◌, ◌==◌, List, [], ◌∷◌, ◌++◌, length, Option, Some, None, Ok, Err, refl, ap, sym, subst, ◌∙◌, codes, lt-ltb, if◌then◌else◌, arith}
 use Rattle.std.specs.Prelude.{MatchOption, Result}
 use Rattle.std.specs.List.{list_any, list_all, range_with_len}
 use Rattle.std.specs.Str.{bytes_eq}
-use Rattle.std.proofs.lemmas.Bool.{and_parts, and_from, leb-true, ltb-true, ne_eqb, false≢true}
+use Rattle.std.proofs.lemmas.Bool.{and_from, ltb-true, ne_eqb, false≢true}
 use Rattle.std.proofs.lemmas.List.FromFn.{length-range_with_len}
-use Rattle.toml.specs.Data.{Data, integer, string, array, Items, no_items, item, Members, get_member}
+use Rattle.toml.specs.Data.{Data, integer, Items, no_items, item, Members}
 use Rattle.smm_base.specs.declared.kinds.MapKind.{MapKind}
 use Rattle.smm_base.specs.declared.kinds.Policy.{Policy}
 use Rattle.smm_base.specs.declared.kinds.Policy.TheVariants.{Elected, Fixed}
 use Rattle.cpu_table.specs.Distinct.{are_distinct}
 use Rattle.cpu_table.specs.Ranges.{policy_fits}
 use Rattle.cpu_table.specs.declared.setup.Mode.{Mode}
-use Rattle.platform_document.specs.declared.path.Key.{Key}
 use Rattle.platform_document.specs.declared.path.Key.TheVariants as key
 use Rattle.platform_document.specs.declared.fault.WalkFault.TheVariants.{Range}
 use Rattle.platform_file.specs.declared.head.Head.{Head}
