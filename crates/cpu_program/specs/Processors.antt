@@ -7,7 +7,7 @@ use Rattle.smm_base.specs.declared.kinds.Cause.{Cause}
 use Rattle.smm_base.specs.declared.kinds.Policy.{Policy}
 use Rattle.smm_base.specs.declared.kinds.Policy.TheVariants.{Elected, Fixed}
 use Rattle.smm_base.specs.declared.status.Status.{Status}
-use Rattle.cpu_regs.specs.Registers.{loaded}
+use Rattle.cpu_regs.specs.Registers.{Registers, loaded}
 use Rattle.cpu_regs.specs.Entering.{saved, after}
 use Rattle.cpu_table.specs.Data.{SetupData}
 use Rattle.cpu_table.specs.declared.setup.CauseAt.{CauseAt}
@@ -89,17 +89,24 @@ cause_of causes cpu visit = cause_in (find (is_of_visit cpu visit) causes)
 abbrev pub between : Row → Processor → Processor
 between r p = record p { part = Between r }
 
+-- how the close of a session and the way out of the others begin
+abbrev pub close_begun : Processor → close.ClosePosition
+close_begun p = close.close_of p.setup.processors p.me (desks_held p.held) (is_relaxed p.setup.mode)
+
+abbrev pub exit_begun : Processor → exit.ExitPosition
+exit_begun p = exit.exit_of p.setup.processors p.me (desks_held p.held) (is_elected p.setup.policy)
+
 -- at this row: the part that begins with it, or the row by itself
 abbrev pub go_on : Row → Processor → Processor
 go_on row.LookAtSource p = record p { part = Entering (entry.entry_of p.setup.processors p.setup.policy p.me) }
 go_on row.LookAtExcept p = record p { part = Gathering (gather.gather_of p.setup.processors p.setup.t1 p.setup.t2 p.me) }
-go_on row.MarkInsync p = record p { part = Closing (close.close_of p.setup.processors p.me (desks_held p.held) (is_relaxed p.setup.mode)) }
+go_on row.MarkInsync p = record p { part = Closing (close_begun p) }
 go_on (row.AwaitInside looks) p = record p { part = Reporting (report.report_of p.setup.processors p.setup.t1 p.setup.t2 p.me) }
 go_on r p = between r p
 
 -- the way out of the others begins
 abbrev pub begin_exit : Processor → Processor
-begin_exit p = record p { part = Exiting (exit.exit_of p.setup.processors p.me (desks_held p.held) (is_elected p.setup.policy)) }
+begin_exit p = record p { part = Exiting (exit_begun p) }
 
 -- after all its visits a processor turns its signal off
 abbrev pub to_await : Processor → Row
@@ -126,16 +133,33 @@ to_jobs from p = row_or row.CollectJob (after_jobs p.setup.mode) (next_below p.s
 
 -- SERVING
 
--- serving goes on with the row that the session has told: its need, and the desk that it raises has its job. Where nothing is left
--- to serve, the jobs are collected
-abbrev pub with_need : Need → Session → Processor → Processor
-with_need need.Finished s p = go_on (to_jobs 0 (record p { chair = Some s })) (record p { chair = Some s })
-with_need n s p = record p { part = Serving; chair = Some s; held = handed_as s.told p.held }
+-- there is a need, of a processor of the platform if it names one
+abbrev pub is_at_need : ℕ → Need → Bool
+is_at_need processors need.Look = true
+is_at_need processors (need.ClaimPresent c) = nat_lt c processors
+is_at_need processors (need.ClaimBusy c) = nat_lt c processors
+is_at_need processors (need.AwaitBusy c) = nat_lt c processors
+is_at_need processors (need.PutBusy c) = nat_lt c processors
+is_at_need processors (need.RaiseRun c) = nat_lt c processors
+is_at_need processors need.Finished = false
+
+-- Serving goes on where the session has a need. Where nothing is left to serve, the jobs are collected.
+abbrev pub with_need : Bool → Processor → Processor
+with_need true p = record p { part = Serving }
+with_need false p = go_on (to_jobs 0 p) p
+
+-- the session tells its next need, and the desk that it raises has its job then
+abbrev pub told_need : Session → Processor → Processor
+told_need s p = with_need (is_at_need p.setup.processors (need_as s.told)) (record p { chair = Some s; held = handed_as s.told p.held })
 
 abbrev pub serve_on : Session → Processor → Processor
-serve_on s p = with_need (need_as (told_on p.held s).told) (told_on p.held s) p
+serve_on s p = told_need (told_on p.held s) p
 
 -- a processor without the chair, as there is none, serves nothing
+abbrev pub served : Option Session → Processor → Processor
+served None p = p
+served (Some s) p = serve_on s p
+
 abbrev pub begin_serving : Option Session → Processor → Processor
 begin_serving None p = go_on (after_jobs p.setup.mode) p
 begin_serving (Some s) p = serve_on (begun_session p.me p.wave s) p
@@ -167,15 +191,19 @@ taken_serving (Some s) p found =
 
 -- ENTERING, WORKING AND RESUMING
 
-abbrev pub entered_desk : Processor → Desk → Desk
-entered_desk p desk =
-    record desk { image = saved p.registers (cause_of p.setup.causes p.me (p.visits + 1)) desk.image }
+-- a desk into whose image registers were saved
+abbrev pub desk_saved : Registers → Cause → Desk → Desk
+desk_saved registers cause desk = record desk { image = saved registers cause desk.image }
+
+-- the cause of the next visit of a processor
+abbrev pub next_cause : Processor → Cause
+next_cause p = cause_of p.setup.causes p.me (p.visits + 1)
 
 -- a visit begins: the registers are saved into the image on the processor's own desk, with the cause of the visit
 abbrev pub entered : Processor → Processor
 entered p =
     go_on row.LookAtSource
-    (record p { visits = p.visits + 1; held = slice_set p.held p.me (option_map (entered_desk p) (own_desk p)) })
+    (record p { visits = p.visits + 1; held = slice_set p.held p.me (option_map (desk_saved p.registers (next_cause p)) (own_desk p)) })
 
 -- the label of a job that was run
 abbrev pub job_label : ℕ → Option (ℕ × Status) → Label
@@ -191,10 +219,15 @@ abbrev pub resume_label : Option Desk → Label
 resume_label None = say.Resume Next
 resume_label (Some desk) = say.Resume (after desk.image)
 
--- it loads its registers from that image
-abbrev pub resumed_from : Option Desk → Processor → Processor
-resumed_from None p = p
-resumed_from (Some desk) p = record p { registers = loaded desk.image; last = desk.image }
+-- it loads its registers from that image, and waits for the next interrupt
+abbrev pub resumed : Option Desk → Processor → Processor
+resumed None p = between (to_await p) p
+resumed (Some desk) p = record p { part = Between (to_await p); registers = loaded desk.image; last = desk.image }
+
+-- an AP that has its desk back runs the job on it, or was released
+abbrev pub work_row : Bool → Row
+work_row true = row.GiveDeskBack
+work_row false = row.TellReleased
 
 -- ROWS
 
@@ -226,18 +259,21 @@ taken_at (row.CollectJob cpu) p found =
     says (say.Collect cpu) (go_on (to_jobs (cpu + 1) p) (record p { held = taken_off cpu p.held }))
 taken_at row.LeaveInside p found = says say.Done (begin_exit p)
 taken_at row.AwaitRelease p found =
-    says say.Silent (between (if job_to_run p.setup (own_desk p) then row.GiveDeskBack else row.TellReleased) p)
+    says say.Silent (between (work_row (job_to_run p.setup (own_desk p))) p)
 taken_at row.GiveDeskBack p found = says (ran_label p.ran) (between row.AwaitRelease (record p { ran = None }))
 taken_at row.TellReleased p found = says say.Silent (between row.AwaitDismissal p)
 taken_at row.AwaitDismissal p found = says say.Silent (between row.WithdrawReport p)
 taken_at row.WithdrawReport p found = says say.Depart (between row.TellDismissed p)
 taken_at row.TellDismissed p found = says say.Silent (between row.AwaitSessionEnd p)
 taken_at row.AwaitSessionEnd p found = says say.Silent (between row.ClearSignal p)
-taken_at row.ClearSignal p found =
-    says (resume_label (own_desk p)) (between (to_await p) (resumed_from (own_desk p) p))
+taken_at row.ClearSignal p found = says (resume_label (own_desk p)) (resumed (own_desk p) p)
 taken_at _ p found = says say.Silent p
 
 -- PARTS
+
+abbrev pub is_off_part : Part → Bool
+is_off_part Off = true
+is_off_part _ = false
 
 -- where a part has ended, the processor goes on at the row that comes next
 abbrev pub left_to : Option Row → Processor → Processor

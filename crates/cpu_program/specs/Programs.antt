@@ -4,7 +4,7 @@ use Rattle.save_state_map.specs.Images.{ImageContents}
 use Rattle.cpu_regs.specs.Registers.{Registers}
 use Rattle.cpu_table.specs.Data.{SetupData}
 use Rattle.sync_words.specs.declared.event.Hand.{Hand}
-use Rattle.sync_words.specs.declared.event.Hand.TheVariants.{Give, Take}
+use Rattle.sync_words.specs.declared.event.Hand.TheVariants.{Nothing, Give, Take}
 use Rattle.sync_words.specs.declared.event.Want.{Want}
 use Rattle.sync_words.specs.declared.event.Want.TheVariants as want
 use Rattle.sync_words.specs.declared.row.Row.{Row}
@@ -88,11 +88,13 @@ abbrev pub given : Actor → Actor
 given (OfProcessor p) = OfProcessor (given_by_hand (hand_of (want_of (OfProcessor p))) p)
 given (OfChipset c) = OfChipset c
 
+-- what was given and didn't move comes back the same way
 abbrev pub received_by_hand : Hand → Cargo → Processor → Processor
 received_by_hand (Take k) cargo p = after_receiving p k cargo
-received_by_hand _ cargo p = p
+received_by_hand (Give k) cargo p = after_receiving p k cargo
+received_by_hand Nothing cargo p = p
 
--- the actor after it received what it wanted to take
+-- the actor after it received what it wanted to take, or what it had given and didn't move
 abbrev pub received : Cargo → Actor → Actor
 received cargo (OfProcessor p) = OfProcessor (received_by_hand (hand_of (want_of (OfProcessor p))) cargo p)
 received cargo (OfChipset c) = OfChipset c
@@ -104,6 +106,12 @@ abbrev pub last_of : Actor → Option ImageContents
 last_of (OfProcessor p) = Some p.last
 last_of (OfChipset c) = None
 
+-- how many processors there are where the actor is
+abbrev pub processors_of : Actor → ℕ
+processors_of (OfProcessor p) = p.setup.processors
+processors_of (OfChipset c) = c.setup.processors
+
+-- the actor's number: that of the processor, or for the chipset that of the processors
 abbrev pub number_of : Actor → ℕ
 number_of (OfProcessor p) = p.me
 number_of (OfChipset c) = c.setup.processors

@@ -3,7 +3,9 @@
 #![tactic(auto)]
 
 mod cargo;
+mod laws;
 mod part;
 
 pub use cargo::Cargo;
+pub use laws::program_laws;
 pub use part::Part;

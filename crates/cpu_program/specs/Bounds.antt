@@ -1,0 +1,106 @@
+-- What a program keeps between its events: each number, list and image of its actor is one of the platform's.
+use Rattle.std.specs.Prelude.{ℕ, ◌≡◌, ◌<◌, ◌≤◌, ◌+◌, true, length, Option, Some, None, IfSome}
+use Rattle.smm_base.specs.declared.kinds.MapKind.{MapKind}
+use Rattle.cpu_table.specs.Ranges.{waves_fit}
+use Rattle.sync_words.specs.declared.row.Row.{Row}
+use Rattle.sync_words.specs.declared.row.Row.TheVariants as row
+use Rattle.arrival.specs.Entry as entry
+use Rattle.arrival.specs.Gather as gather
+use Rattle.arrival.specs.Report as report
+use Rattle.exit_handshake.specs.Close as close
+use Rattle.exit_handshake.specs.Exit as exit
+use Rattle.cpu_table.specs.Data.{SetupData}
+use Rattle.handler_ops.specs.declared.desk.Desk.{Desk}
+use Rattle.handler_ops.specs.Course.{Desks, desk_of}
+use Rattle.handler_ops.specs.Sessions.{Session}
+use Rattle.handler_ops.specs.Told.{need_as}
+use Rattle.handler_ops.specs.Answering.{HasTold}
+use Rattle.cpu_program.specs.declared.processor.Processor.{Processor as ProcessorFields}
+use Rattle.cpu_program.specs.Actors.{Processor, Chipset, Actor, OfProcessor, OfChipset, Part, Between, Entering, Gathering, Closing, Serving, Exiting, Reporting, Off}
+use Rattle.cpu_program.specs.Processors.{is_at_need}
+
+-- a part of the platform's processors that goes on
+pub record GoesOn (processors n : ℕ) (left : Option Row) : Type 0 where
+  pub same : n ≡ processors
+  pub here : left ≡ None
+
+-- a visit is to begin only where one is left, and a job is collected from a processor of the platform
+abbrev pub IsRow : Row → Processor → Type 0
+IsRow row.AwaitSmi p = p.visits < p.setup.visits
+IsRow (row.CollectJob cpu) p = cpu < p.setup.processors
+IsRow _ p = Unit {0}
+
+-- the session is there, and has told a need, which names a processor of the platform
+abbrev pub IsServing : ℕ → Option Session → Type 0
+IsServing processors None = ⊥
+IsServing processors (Some s) = HasTold s × (is_at_need processors (need_as s.told) ≡ true)
+
+abbrev pub IsPart : Part → Processor → Type 0
+IsPart (Between r) p = IsRow r p
+IsPart (Entering e) p = entry.IsEntry e × GoesOn p.setup.processors e.processors (entry.left_of e.row)
+IsPart (Gathering g) p = gather.IsGather g × GoesOn p.setup.processors g.processors (gather.left_of g.row)
+IsPart (Closing c) p = close.IsClose c × GoesOn p.setup.processors c.processors (close.left_of c.row)
+IsPart Serving p = IsServing p.setup.processors p.chair
+IsPart (Exiting e) p = exit.IsExit e × GoesOn p.setup.processors e.processors (exit.left_of e.row)
+IsPart (Reporting r) p = report.IsReport r × GoesOn p.setup.processors r.processors (report.left_of r.row)
+IsPart Off p = Unit {0}
+
+-- the ranges of a platform that its processors rest on
+pub record IsPlatform (d : SetupData) : Type 0 where
+  pub few : (1 ≤ d.processors) × (d.processors ≤ 64)
+  pub first : (1 ≤ d.t1) × (d.t1 ≤ 4096)
+  pub second : (1 ≤ d.t2) × (d.t2 ≤ 4096)
+  pub visits : (1 ≤ d.visits) × (d.visits ≤ 256)
+  pub waves : waves_fit d.processors d.visits d.waves ≡ true
+
+-- the image on a desk is of this kind
+abbrev pub IsOfKind : MapKind → Desk → Type 0
+IsOfKind kind desk = desk.image.kind ≡ kind
+
+-- each desk that is held has an image of the platform's kind
+abbrev pub AreOfKind : MapKind → Desks → Type 0
+AreOfKind kind held = (c : ℕ) → IfSome (desk_of held c) (IsOfKind kind)
+
+abbrev pub HasProcessors : ℕ → Session → Type 0
+HasProcessors n s = s.setup.processors ≡ n
+
+pub record IsProcessor (p : Processor) : Type 0 where
+  pub platform : IsPlatform p.setup
+  pub own : p.me < p.setup.processors
+  pub bsp : p.bsp < p.setup.processors
+  pub visits : p.visits ≤ p.setup.visits
+  pub held : length p.held ≡ p.setup.processors
+  pub kinds : AreOfKind p.setup.kind p.held
+  pub registers : p.registers.kind ≡ p.setup.kind
+  pub last : p.last.kind ≡ p.setup.kind
+  pub chair : IfSome p.chair (HasProcessors p.setup.processors)
+  pub part : IsPart p.part p
+
+-- the fields that going on rests on
+pub record IsReady (p : ProcessorFields) : Type 0 where
+  pub own : p.me < p.setup.processors
+  pub held : length p.held.desks ≡ p.setup.processors
+  pub chair : IfSome p.chair (HasProcessors p.setup.processors)
+
+-- the fields that entering and resuming rest on
+pub record HasImages (p : ProcessorFields) : Type 0 where
+  pub registers : p.registers.kind ≡ p.setup.kind
+  pub kinds : AreOfKind p.setup.kind p.held.desks
+
+-- an interrupt is raised at a processor of the platform
+abbrev pub IsChipsetRow : Option Row → Chipset → Type 0
+IsChipsetRow (Some (row.RaiseWave cpu)) c = cpu < c.setup.processors
+IsChipsetRow (Some (row.RaiseOff cpu)) c = cpu < c.setup.processors
+IsChipsetRow (Some (row.WatchSource looks)) c = looks < c.setup.t1 + c.setup.t2
+IsChipsetRow _ c = Unit {0}
+
+-- the wave is one of the platform's
+pub record IsChipset (c : Chipset) : Type 0 where
+  pub platform : IsPlatform c.setup
+  pub first : 1 ≤ c.wave
+  pub last : c.wave ≤ length c.setup.waves
+  pub row : IsChipsetRow c.row c
+
+abbrev pub IsActor : Actor → Type 0
+IsActor (OfProcessor p) = IsProcessor p
+IsActor (OfChipset c) = IsChipset c
