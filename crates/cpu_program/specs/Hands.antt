@@ -59,10 +59,11 @@ ran_after true p k = job_given (desk_given p (desk_of p.held k))
 ran_after false p k = p.ran
 
 -- the processor after it gave
+abbrev pub desk_left : Processor → ℕ → Processor
+desk_left p k = record p { held = slice_set p.held k None; ran = ran_after (is_giving_back p.part) p k }
+
 abbrev pub after_giving : Processor → ℕ → Processor
-after_giving p k =
-    if k == p.setup.processors then record p { chair = None }
-    else record p { held = slice_set p.held k None; ran = ran_after (is_giving_back p.part) p k }
+after_giving p k = if k == p.setup.processors then record p { chair = None } else desk_left p k
 
 -- RECEIVING
 

@@ -1,9 +1,10 @@
-ghost use Rattle.std.specs.Prelude.{◌≡◌, ◌≤◌, ◌<◌, length};
+ghost use Rattle.std.specs.Prelude.{◌≡◌, ◌≤◌, ◌<◌, ◌+◌, length};
 ghost use Rattle.cpu_program.specs.Bounds.{IsChipset};
 ghost use Rattle.cpu_program.specs.Views.{chipset_in};
-ghost use Rattle.cpu_program.specs.Chipsets.{arrivals_of, is_blocked, blocked_in, signal_for, signal_in, to_raise, to_off, after_wave, is_watched};
-ghost use Rattle.cpu_program.specs.Programs.{want_at_row, taken_at_row};
-ghost use Rattle.cpu_program.specs.Chipsets as chipset;
+ghost use Rattle.std.specs.List.{count_by};
+ghost use Rattle.cpu_table.specs.Data.{data_of};
+ghost use Rattle.cpu_program.specs.Chipsets.{after_wave, arrivals_of, blocked_in, is_blocked, off_row, raise_row, signal_for, signal_in, watched_row};
+ghost use Rattle.cpu_program.specs.Programs.{first_chipset, want_at_row, taken_at_row};
 
 use crate::processor::wants;
 use cpu_table::{Arrival, Setup, Wave};
@@ -18,6 +19,17 @@ pub struct Chipset {
 }
 
 impl Chipset {
+    /// The chipset before its first wave.
+    pub fn new(setup: Setup) -> Chipset
+        ensures { chipset_in result ≡ first_chipset (data_of setup) }
+    {
+        Chipset {
+            setup,
+            row: Some(Row::AnnounceBlocked),
+            wave: 1,
+        }
+    }
+
     /// What it wants next. The time is at most proportional to the number of processors.
     pub fn want(&self) -> Want
         requires { IsChipset (chipset_in self.now) }

@@ -1,19 +1,76 @@
-ghost use Rattle.std.specs.Prelude.{◌≡◌, Option, Some, None};
+ghost use Rattle.std.specs.Prelude.{◌≡◌, true, Some, is_some, IsSome};
 ghost use Rattle.cpu_table.specs.Data.{data_of};
+ghost use Rattle.sync_words.specs.Steps.{hand_of};
+ghost use Rattle.handler_ops.specs.Course.{desk_of};
+ghost use Rattle.cpu_program.specs.Actors.{OfProcessor};
 ghost use Rattle.cpu_program.specs.Processors.{can_run};
-ghost use Rattle.cpu_program.specs.Bounds.{IsReady};
+ghost use Rattle.cpu_program.specs.Bounds.{IsProcessor};
 ghost use Rattle.cpu_program.specs.Views.{processor_in};
-ghost use Rattle.cpu_program.specs.Hands.{is_kind, job_run, chair_given, thing_given, after_giving, desk_received, chair_received, after_receiving};
+ghost use Rattle.cpu_program.specs.Hands.{after_giving, after_receiving, chair_received, desk_given, desk_left, desk_received, is_giving_back, job_run, thing_given};
+ghost use Rattle.cpu_program.specs.Programs.{gift_of, gift_of_hand, given, given_by_hand, received};
 
 use crate::cargo::Cargo;
 use crate::part::Part;
 use crate::processor::Processor;
 use cpu_table::Setup;
 use handler_ops::{Desk, Job, Server, run_job};
-use sync_words::Row;
+use sync_words::{Hand, Row, Want};
 
 // How a processor gives and receives.
 impl Processor {
+    /// The thing that it wants to give is there.
+    pub fn has_gift(&self) -> bool
+        requires { IsProcessor (processor_in self.now) }
+        ensures { result ≡ is_some (gift_of (OfProcessor (processor_in self.now))) }
+    {
+        match hand_of(self.want()) {
+            Hand::Give(k) => self.has(k),
+            Hand::Take(_) | Hand::Nothing => false,
+        }
+    }
+
+    fn has(&self, k: u16) -> bool
+        ensures { result ≡ is_some (thing_given (processor_in self.now) k) }
+    {
+        if k == self.setup.processors {
+            self.chair.is_some()
+        } else {
+            self.held.desks.get(k).is_some()
+        }
+    }
+
+    /// Gives what it wants to give, which is there.
+    pub fn give_wanted(&mut self) -> Cargo
+        requires processor { IsProcessor (processor_in self.old) }
+        requires there { IsSome (gift_of (OfProcessor (processor_in self.old))) }
+        ensures gift { Some result ≡ gift_of (OfProcessor (processor_in self.old)) }
+        ensures after { OfProcessor (processor_in self.new) ≡ given (OfProcessor (processor_in self.old)) }
+    {
+        let hand = hand_of(self.want());
+        cargo_of(self.give_by(hand))
+    }
+
+    fn give_by(&mut self, hand: Hand) -> Option<Cargo>
+        ensures gift { result ≡ gift_of_hand hand (processor_in self.old) }
+        ensures after { processor_in self.new ≡ given_by_hand hand (processor_in self.old) }
+    {
+        match hand {
+            Hand::Give(k) => self.give(k),
+            Hand::Take(_) | Hand::Nothing => None,
+        }
+    }
+
+    /// Receives what it wants to take, or what it gave and didn't move.
+    pub fn receive_wanted(&mut self, cargo: Cargo)
+        requires { IsProcessor (processor_in self.old) }
+        ensures { OfProcessor (processor_in self.new) ≡ received cargo (OfProcessor (processor_in self.old)) }
+    {
+        match hand_of(self.want()) {
+            Hand::Give(k) | Hand::Take(k) => self.receive(k, cargo),
+            Hand::Nothing => {}
+        }
+    }
+
     /// Gives the thing with this number, if it has it: the chair has the number of processors, a desk that of its processor. An AP runs
     /// its job as it gives its desk back.
     pub fn give(&mut self, k: u16) -> Option<Cargo>
@@ -37,6 +94,9 @@ impl Processor {
 
     // The desk with its job run.
     fn give_back(&mut self, k: u16) -> Option<Cargo>
+        requires { is_giving_back self.old.part ≡ true }
+        ensures thing { result ≡ desk_given (processor_in self.old) (desk_of self.old.held.desks k) }
+        ensures after { processor_in self.new ≡ desk_left (processor_in self.old) k }
     {
         match self.held.desks.take(k) {
             None => {
@@ -75,6 +135,26 @@ impl Processor {
         if k == self.setup.processors && server.processors() == self.setup.processors {
             self.chair = Some(server);
         }
+    }
+}
+
+// What changes hands with a wanted access.
+fn hand_of(want: Want) -> Hand
+    ensures { result ≡ hand_of want }
+{
+    match want {
+        Want::Access { hand, .. } => hand,
+        Want::Off => Hand::Nothing,
+    }
+}
+
+fn cargo_of(thing: Option<Cargo>) -> Cargo
+    requires { IsSome thing }
+    ensures { Some result ≡ thing }
+{
+    match thing {
+        Some(cargo) => cargo,
+        None => unreachable!(),
     }
 }
 

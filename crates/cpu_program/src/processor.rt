@@ -1,4 +1,6 @@
-ghost use Rattle.std.specs.Prelude.{◌≡◌};
+ghost use Rattle.std.specs.Prelude.{◌≡◌, ◌<◌, IfOk, None, replicate};
+ghost use Rattle.cpu_table.specs.Data.{data_of};
+ghost use Rattle.cpu_program.specs.Programs.{first_processor, held_at_first};
 ghost use Rattle.handler_ops.specs.declared.need.Need.TheVariants as need;
 ghost use Rattle.sync_words.specs.Steps.{wants, looks_at};
 ghost use Rattle.cpu_program.specs.Bounds.{IsProcessor};
@@ -8,8 +10,10 @@ ghost use Rattle.cpu_program.specs.Processors.{want_at, want_for, want_of_sessio
 use crate::part::Part;
 use cpu_regs::Regs;
 use cpu_table::Setup;
-use handler_ops::{Held, Job, Need, Server};
+use handler_ops::{Desk, Desks, Held, Job, Need, Server};
 use save_state_map::Image;
+use smm_base::NoMemory;
+use std::alloc::Global;
 use sync_words::{Access, Hand, OFF, Row, Want, WordId};
 
 /// A processor. Its image and its job are on its desk, which changes hands; all else stays with it.
@@ -35,6 +39,26 @@ pub struct Processor {
 }
 
 impl Processor {
+    /// A processor that waits for its interrupt, with its own desk, which has its image and no job.
+    pub fn new(setup: Setup, me: u16, image: &Image, registers: Regs, held: Held, chair: Option<Server>) -> Processor
+        requires { held.desks ≡ held_at_first setup.processors me image.now }
+        ensures { processor_in result ≡ first_processor (data_of setup) me image.now registers chair }
+    {
+        Processor {
+            setup,
+            me,
+            part: Part::Between(Row::AwaitSmi),
+            visits: 0,
+            wave: 0,
+            bsp: 0,
+            registers,
+            last: *image,
+            held,
+            chair,
+            ran: None,
+        }
+    }
+
     /// What it wants next. Constant time.
     pub fn want(&self) -> Want
         requires { IsProcessor (processor_in self.now) }
@@ -86,6 +110,30 @@ impl Processor {
     {
         matches!(self.part, Part::Off)
     }
+}
+
+/// The desks that a processor holds at first: its own, which has its image and no job.
+pub fn held_at_first(alloc: Global, processors: u16, me: u16, image: &Image) -> Result<Held, NoMemory>
+    requires { me < processors }
+    ensures { IfOk result (λ held. held.desks ≡ held_at_first processors me image.now) }
+{
+    let mut desks = Desks::new(no_desks(alloc, processors)?);
+    let desk = Desk {
+        image: *image,
+        job: None,
+    };
+    desks.put(me, desk);
+    Ok(Held { desks })
+}
+
+fn no_desks(alloc: Global, processors: u16) -> Result<Vec<Option<Desk>>, NoMemory>
+    ensures { IfOk result (λ desks. desks.items ≡ replicate processors None) }
+{
+    let mut desks = Vec::with_capacity(alloc, usize::from(processors))?;
+    for _cpu in 0..processors {
+        desks.push(None)?;
+    }
+    Ok(desks)
 }
 
 // An access to a word at which nothing changes hands.

@@ -1,21 +1,21 @@
-ghost use Rattle.std.specs.Prelude.{◌≡◌, ◌≤◌, ◌<◌, ◌==◌, Bool, true, is_some, Some, IfOk, IfSome, IsSome, IsSomeAnd, IsNone, option_copied};
+ghost use Rattle.std.specs.Prelude.{◌≡◌, ◌≤◌, Some, is_some, IfOk, IfSome, IsSome, option_copied};
 ghost use Rattle.cpu_table.specs.Data.{data_of};
-ghost use Rattle.sync_words.specs.Steps.{Accepts, IsWantWithin, found_of};
-ghost use Rattle.cpu_program.specs.Programs.{first_actor, gift_of, given, is_off, last_of, number_of, processors_of, received, taken, want_of, IsWanted, IsFitOf};
+ghost use Rattle.sync_words.specs.Steps.{Accepts, IsWantWithin, found_of, hand_of};
+ghost use Rattle.sync_words.specs.declared.event.Want.TheVariants as want;
+ghost use Rattle.cpu_program.specs.Programs.{first_actor, gift_of, given, is_off, is_processor, last_of, number_of, processors_of, received, taken, want_of, IsAccess, IsWanted};
 
 use crate::cargo::Cargo;
 use crate::chipset::Chipset;
-use crate::part::Part;
-use crate::processor::Processor;
+use crate::processor::{Processor, held_at_first};
 use crate::state::State;
 use cpu_regs::Regs;
 use cpu_table::Setup;
-use handler_ops::{Desk, Desks, Held, Server};
+use handler_ops::Server;
 use save_state_map::Image;
 use smm_base::NoMemory;
 use std::alloc::Global;
 use std::marker::Model;
-use sync_words::{Access, Applied, Event, Hand, Row, Want, WordId};
+use sync_words::{Access, Applied, Event, Want, WordId};
 
 /// What one actor does: a processor, or the chipset. It tells the access that it wants, is told what the access found, and answers
 /// with the event. The desk or the chair that changes hands at the access is given before it is told, or received.
@@ -53,7 +53,7 @@ impl Program {
         let state = match (start, regs) {
             (Some(image), Some(registers)) => {
                 let held = held_at_first(alloc, setup.processors, actor, &image)?;
-                State::Processor(Processor::new(copy, actor, image, registers, held, chair))
+                State::Processor(Processor::new(copy, actor, &image, registers, held, chair))
             }
             _ => State::Chipset(Chipset::new(copy)),
         };
@@ -140,5 +140,16 @@ impl Program {
             State::Processor(processor) => processor.is_off(),
             State::Chipset(chipset) => chipset.row.is_none(),
         }
+    }
+}
+
+// The word and the access that are wanted.
+fn wanted(want: Want) -> (WordId, Access)
+    requires { IsAccess want }
+    ensures { want ≡ want.Access result.0 result.1 (hand_of want) }
+{
+    match want {
+        Want::Access { word, access, .. } => (word, access),
+        Want::Off => unreachable!(),
     }
 }
