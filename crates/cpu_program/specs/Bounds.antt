@@ -1,6 +1,8 @@
 -- What a program keeps between its events: each number, list and image of its actor is one of the platform's.
 use Rattle.std.specs.Prelude.{ℕ, ◌≡◌, ◌<◌, ◌≤◌, ◌+◌, true, length, Option, Some, None, IfSome}
 use Rattle.smm_base.specs.declared.kinds.MapKind.{MapKind}
+use Rattle.save_state_map.specs.Images.{ImageContents}
+use Rattle.cpu_regs.specs.Registers.{Registers}
 use Rattle.cpu_table.specs.Ranges.{waves_fit}
 use Rattle.sync_words.specs.declared.row.Row.{Row}
 use Rattle.sync_words.specs.declared.row.Row.TheVariants as row
@@ -25,25 +27,25 @@ pub record GoesOn (processors n : ℕ) (left : Option Row) : Type 0 where
   pub here : left ≡ None
 
 -- a visit is to begin only where one is left, and a job is collected from a processor of the platform
-abbrev pub IsRow : Row → Processor → Type 0
-IsRow row.AwaitSmi p = p.visits < p.setup.visits
-IsRow (row.CollectJob cpu) p = cpu < p.setup.processors
-IsRow _ p = Unit {0}
+abbrev pub IsRow : Row → SetupData → ℕ → Type 0
+IsRow row.AwaitSmi d visits = visits < d.visits
+IsRow (row.CollectJob cpu) d visits = cpu < d.processors
+IsRow _ d visits = Unit {0}
 
 -- the session is there, and has told a need, which names a processor of the platform
 abbrev pub IsServing : ℕ → Option Session → Type 0
 IsServing processors None = ⊥
 IsServing processors (Some s) = HasTold s × (is_at_need processors (need_as s.told) ≡ true)
 
-abbrev pub IsPart : Part → Processor → Type 0
-IsPart (Between r) p = IsRow r p
-IsPart (Entering e) p = entry.IsEntry e × GoesOn p.setup.processors e.processors (entry.left_of e.row)
-IsPart (Gathering g) p = gather.IsGather g × GoesOn p.setup.processors g.processors (gather.left_of g.row)
-IsPart (Closing c) p = close.IsClose c × GoesOn p.setup.processors c.processors (close.left_of c.row)
-IsPart Serving p = IsServing p.setup.processors p.chair
-IsPart (Exiting e) p = exit.IsExit e × GoesOn p.setup.processors e.processors (exit.left_of e.row)
-IsPart (Reporting r) p = report.IsReport r × GoesOn p.setup.processors r.processors (report.left_of r.row)
-IsPart Off p = Unit {0}
+abbrev pub IsPart : Part → SetupData → ℕ → Option Session → Type 0
+IsPart (Between r) d visits chair = IsRow r d visits
+IsPart (Entering e) d visits chair = entry.IsEntry e × GoesOn d.processors e.processors (entry.left_of e.row)
+IsPart (Gathering g) d visits chair = gather.IsGather g × GoesOn d.processors g.processors (gather.left_of g.row)
+IsPart (Closing c) d visits chair = close.IsClose c × GoesOn d.processors c.processors (close.left_of c.row)
+IsPart Serving d visits chair = IsServing d.processors chair
+IsPart (Exiting e) d visits chair = exit.IsExit e × GoesOn d.processors e.processors (exit.left_of e.row)
+IsPart (Reporting r) d visits chair = report.IsReport r × GoesOn d.processors r.processors (report.left_of r.row)
+IsPart Off d visits chair = Unit {0}
 
 -- the ranges of a platform that its processors rest on
 pub record IsPlatform (d : SetupData) : Type 0 where
@@ -64,17 +66,24 @@ AreOfKind kind held = (c : ℕ) → IfSome (desk_of held c) (IsOfKind kind)
 abbrev pub HasProcessors : ℕ → Session → Type 0
 HasProcessors n s = s.setup.processors ≡ n
 
+-- all that a processor has but its part
+pub record IsKept (d : SetupData) (me bsp_number begun : ℕ) (desks : Desks) (numbers : Registers) (image : ImageContents) (session : Option Session) : Type 0 where
+  pub platform : IsPlatform d
+  pub own : me < d.processors
+  pub bsp : bsp_number < d.processors
+  pub visits : begun ≤ d.visits
+  pub held : length desks ≡ d.processors
+  pub kinds : AreOfKind d.kind desks
+  pub registers : numbers.kind ≡ d.kind
+  pub last : image.kind ≡ d.kind
+  pub chair : IfSome session (HasProcessors d.processors)
+
+abbrev pub Keeps : Processor → Type 0
+Keeps p = IsKept p.setup p.me p.bsp p.visits p.held p.registers p.last p.chair
+
 pub record IsProcessor (p : Processor) : Type 0 where
-  pub platform : IsPlatform p.setup
-  pub own : p.me < p.setup.processors
-  pub bsp : p.bsp < p.setup.processors
-  pub visits : p.visits ≤ p.setup.visits
-  pub held : length p.held ≡ p.setup.processors
-  pub kinds : AreOfKind p.setup.kind p.held
-  pub registers : p.registers.kind ≡ p.setup.kind
-  pub last : p.last.kind ≡ p.setup.kind
-  pub chair : IfSome p.chair (HasProcessors p.setup.processors)
-  pub part : IsPart p.part p
+  pub kept : Keeps p
+  pub part : IsPart p.part p.setup p.visits p.chair
 
 -- the fields that going on rests on
 pub record IsReady (p : ProcessorFields) : Type 0 where

@@ -231,23 +231,23 @@ work_row false = row.TellReleased
 
 -- ROWS
 
--- what a processor wants at a row between the parts
-abbrev pub want_at : Row → Processor → Want
-want_at row.AwaitSmi p = wants (Pend p.me) TakeSmi
-want_at row.SwitchOff p = wants (Pend p.me) (Put OFF)
-want_at row.MarkInside p = wants Inside (Put 1)
-want_at row.TakeSource p = wants Source (Put 0)
-want_at (row.CollectJob cpu) p = want.Access (Busy cpu) (Await 2 0) (Take cpu)
-want_at row.LeaveInside p = wants Inside (Put 0)
-want_at row.AwaitRelease p = want.Access (Run p.me) Down (Take p.me)
-want_at row.GiveDeskBack p = want.Access (Busy p.me) (Put 2) (Give p.me)
-want_at row.TellReleased p = wants (Run p.bsp) Up
-want_at row.AwaitDismissal p = wants (Run p.me) Down
-want_at row.WithdrawReport p = wants (Present p.me) (Put 0)
-want_at row.TellDismissed p = wants (Run p.bsp) Up
-want_at row.AwaitSessionEnd p = wants Insync (Await 0 0)
-want_at row.ClearSignal p = wants (Pend p.me) ClearSmi
-want_at _ p = want.Off
+-- what a processor wants at a row between the parts, and as an AP of that BSP
+abbrev pub want_at : Row → ℕ → ℕ → Want
+want_at row.AwaitSmi me bsp = wants (Pend me) TakeSmi
+want_at row.SwitchOff me bsp = wants (Pend me) (Put OFF)
+want_at row.MarkInside me bsp = wants Inside (Put 1)
+want_at row.TakeSource me bsp = wants Source (Put 0)
+want_at (row.CollectJob cpu) me bsp = want.Access (Busy cpu) (Await 2 0) (Take cpu)
+want_at row.LeaveInside me bsp = wants Inside (Put 0)
+want_at row.AwaitRelease me bsp = want.Access (Run me) Down (Take me)
+want_at row.GiveDeskBack me bsp = want.Access (Busy me) (Put 2) (Give me)
+want_at row.TellReleased me bsp = wants (Run bsp) Up
+want_at row.AwaitDismissal me bsp = wants (Run me) Down
+want_at row.WithdrawReport me bsp = wants (Present me) (Put 0)
+want_at row.TellDismissed me bsp = wants (Run bsp) Up
+want_at row.AwaitSessionEnd me bsp = wants Insync (Await 0 0)
+want_at row.ClearSignal me bsp = wants (Pend me) ClearSmi
+want_at _ me bsp = want.Off
 
 -- what the event at such a row says by the number found, and the processor after it
 abbrev pub taken_at : Row → Processor → ℕ → Taken Processor
@@ -304,7 +304,7 @@ report_taken t p =
 
 -- what a processor wants
 abbrev pub want_in : Part → Processor → Want
-want_in (Between r) p = want_at r p
+want_in (Between r) p = want_at r p.me p.bsp
 want_in (Entering e) p = entry.want_of e.row e
 want_in (Gathering g) p = gather.want_of g.row g
 want_in (Closing c) p = close.want_of c.row c

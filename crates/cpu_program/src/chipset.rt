@@ -1,5 +1,5 @@
 ghost use Rattle.std.specs.Prelude.{◌≡◌, ◌≤◌, ◌<◌, ◌+◌, length};
-ghost use Rattle.cpu_program.specs.Bounds.{IsChipset};
+ghost use Rattle.cpu_program.specs.Bounds.{IsChipset, IsPlatform};
 ghost use Rattle.cpu_program.specs.Views.{chipset_in};
 ghost use Rattle.std.specs.List.{count_by};
 ghost use Rattle.cpu_table.specs.Data.{data_of};
@@ -129,6 +129,7 @@ impl Chipset {
 
     // How many processors the wave blocks.
     fn blocked(&self) -> u32
+        requires { IsPlatform (data_of self.now.setup) }
         ensures { result ≡ blocked_in self.now.setup.waves self.now.wave }
     {
         count_blocked(arrivals_of(self.setup.waves.as_slice(), self.wave))

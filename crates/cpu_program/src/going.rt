@@ -1,9 +1,9 @@
-ghost use Rattle.std.specs.Prelude.{◌≡◌, ◌<◌, ◌≤◌, ◌^◌, length, IfSome};
+ghost use Rattle.std.specs.Prelude.{◌≡◌, ◌<◌, ◌≤◌, ◌^◌, length};
 ghost use Rattle.exit_handshake.specs.Desks.{desks_of};
 ghost use Rattle.sync_words.specs.Steps.{next_below};
-ghost use Rattle.cpu_program.specs.Bounds.{HasProcessors, IsReady};
+ghost use Rattle.cpu_program.specs.Bounds.{IsReady, IsServing};
 ghost use Rattle.cpu_program.specs.Views.{processor_in};
-ghost use Rattle.cpu_program.specs.Processors.{is_relaxed, is_elected, desks_held, go_on, begin_exit, to_await, after_source, after_jobs, owes_job, to_jobs, is_at_need, with_need, served, begin_serving, taken_serving, at_row, left_to, known_bsp};
+ghost use Rattle.cpu_program.specs.Processors.{is_relaxed, is_elected, desks_held, close_begun, exit_begun, go_on, begin_exit, to_await, after_source, after_jobs, owes_job, to_jobs, is_at_need, with_need, served, begin_serving, taken_serving, at_row, left_to, known_bsp};
 
 use crate::part::Part;
 use crate::processor::Processor;

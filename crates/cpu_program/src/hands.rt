@@ -1,4 +1,4 @@
-ghost use Rattle.std.specs.Prelude.{◌≡◌, true, Some, is_some, IsSome};
+ghost use Rattle.std.specs.Prelude.{◌≡◌, true, Some, is_some, slice_set, IsSome};
 ghost use Rattle.cpu_table.specs.Data.{data_of};
 ghost use Rattle.sync_words.specs.Steps.{hand_of};
 ghost use Rattle.handler_ops.specs.Course.{desk_of};
@@ -13,7 +13,7 @@ use crate::cargo::Cargo;
 use crate::part::Part;
 use crate::processor::Processor;
 use cpu_table::Setup;
-use handler_ops::{Desk, Job, Server, run_job};
+use handler_ops::{Desk, Desks, Job, Server, run_job};
 use sync_words::{Hand, Row, Want};
 
 // How a processor gives and receives.
@@ -124,8 +124,8 @@ impl Processor {
     fn receive_desk(&mut self, k: u16, desk: Desk)
         ensures { processor_in self.new ≡ desk_received (processor_in self.old) k desk }
     {
-        if desk.image.kind() == self.setup.kind && usize::from(k) < self.held.desks.len() {
-            self.held.desks.put(k, desk);
+        if desk.image.kind() == self.setup.kind {
+            put_if_any(&mut self.held.desks, k, desk);
         }
     }
 
@@ -145,6 +145,16 @@ fn hand_of(want: Want) -> Hand
     match want {
         Want::Access { hand, .. } => hand,
         Want::Off => Hand::Nothing,
+    }
+}
+
+// Holds the desk of a processor; there is none beyond the last.
+#[tactic(auto, using(crate::proofs::DeskLemmas::put_past))]
+fn put_if_any(held: &mut Desks, k: u16, desk: Desk)
+    ensures { held.new ≡ slice_set held.old k (Some desk) }
+{
+    if usize::from(k) < held.len() {
+        held.put(k, desk);
     }
 }
 

@@ -77,7 +77,7 @@ impl Processor {
     }
 
     fn want_at(&self, row: Row) -> Want
-        ensures { result ≡ want_at row (processor_in self.now) }
+        ensures { result ≡ want_at row self.now.me self.now.bsp }
     {
         match row {
             Row::AwaitSmi => wants(WordId::Pend(self.me), Access::TakeSmi),

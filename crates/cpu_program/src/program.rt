@@ -5,8 +5,6 @@ ghost use Rattle.sync_words.specs.declared.event.Want.TheVariants as want;
 ghost use Rattle.cpu_program.specs.Programs.{first_actor, gift_of, given, is_off, is_processor, last_of, number_of, processors_of, received, taken, want_of, IsAccess, IsWanted};
 
 use crate::cargo::Cargo;
-use crate::chipset::Chipset;
-use crate::processor::{Processor, held_at_first};
 use crate::state::State;
 use cpu_regs::Regs;
 use cpu_table::Setup;
@@ -49,14 +47,7 @@ impl Program {
         requires chair { IfSome chair (λ server. server.setup ≡ data_of setup.now) }
         ensures { IfOk result (λ program. program ≡ first_actor (data_of setup.now) actor start regs chair) }
     {
-        let copy = setup.copy()?;
-        let state = match (start, regs) {
-            (Some(image), Some(registers)) => {
-                let held = held_at_first(alloc, setup.processors, actor, &image)?;
-                State::Processor(Processor::new(copy, actor, &image, registers, held, chair))
-            }
-            _ => State::Chipset(Chipset::new(copy)),
-        };
+        let state = State::new(alloc, setup, actor, start, regs, chair)?;
         Ok(Program { state })
     }
 
@@ -85,10 +76,7 @@ impl Program {
         ensures gift { Some result ≡ gift_of self.old }
         ensures after { self.new ≡ given self.old }
     {
-        match &mut self.state {
-            State::Processor(processor) => processor.give_wanted(),
-            State::Chipset(_) => unreachable!(),
-        }
+        self.state.give()
     }
 
     /// Receives what it wants to take, or takes back what it gave just before and what didn't move. It is safe for every cargo: what
@@ -96,9 +84,7 @@ impl Program {
     pub fn receive(&mut self, cargo: Cargo)
         ensures { self.new ≡ received cargo self.old }
     {
-        if let State::Processor(processor) = &mut self.state {
-            processor.receive_wanted(cargo);
-        }
+        self.state.receive(cargo);
     }
 
     /// Goes on after the wanted access was accepted and what changes hands has done so, and gives the event.
@@ -144,11 +130,11 @@ impl Program {
 }
 
 // The word and the access that are wanted.
-fn wanted(want: Want) -> (WordId, Access)
-    requires { IsAccess want }
-    ensures { want ≡ want.Access result.0 result.1 (hand_of want) }
+fn wanted(wish: Want) -> (WordId, Access)
+    requires { IsAccess wish }
+    ensures { wish ≡ want.Access result.0 result.1 (hand_of wish) }
 {
-    match want {
+    match wish {
         Want::Access { word, access, .. } => (word, access),
         Want::Off => unreachable!(),
     }

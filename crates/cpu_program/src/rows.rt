@@ -21,7 +21,7 @@ impl Processor {
     pub fn take_at(&mut self, row: Row, found: u32) -> Label
         requires ready { IsReady self.old }
         requires images { HasImages self.old }
-        requires within { IsRow row (processor_in self.old) }
+        requires within { IsRow row (data_of self.old.setup) self.old.visits }
         ensures label { result ≡ (taken_at row (processor_in self.old) found).label }
         ensures after { processor_in self.new ≡ (taken_at row (processor_in self.old) found).after }
     {

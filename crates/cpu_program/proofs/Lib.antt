@@ -1,0 +1,5 @@
+mod DeskLemmas
+mod WaveLemmas
+mod KindLemmas
+mod WantLemmas
+mod StayLemmas

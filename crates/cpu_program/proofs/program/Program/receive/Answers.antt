@@ -1,0 +1,8 @@
+use Rattle.std.proofs.Common.{sym, subst}
+use Rattle.cpu_program.specs.Bounds.{IsActor}
+use Rattle.cpu_program.specs.Views.{actor_in}
+use Rattle.cpu_program.proofs.StayLemmas.{received_stays}
+use Rattle.cpu_program.proofs.program.Program.receive.Goals as goal
+
+pub invariant_of-self : goal.invariant_of-self
+invariant_of-self c = subst IsActor (sym c.receive.ensures) (received_stays c.args.cargo (actor_in c.self.inside.state) c.self.invariant)
