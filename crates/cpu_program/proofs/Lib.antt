@@ -3,3 +3,4 @@ mod WaveLemmas
 mod KindLemmas
 mod WantLemmas
 mod StayLemmas
+mod HandLemmas

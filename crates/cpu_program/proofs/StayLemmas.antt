@@ -144,7 +144,19 @@ received_stays cargo (OfChipset c) h = h
 
 -- GOING ON
 
-go_on_stays : (r : Row) (p : Processor) → Keeps p → IsRow r p.setup p.visits → IsProcessor (go_on r p)
+-- the rows that a processor goes on at, but for that of serving, and with it
+abbrev IsStart : Row → SetupData → ℕ → Type 0
+IsStart row.LookAtSource d v = Unit {0}
+IsStart row.LookAtExcept d v = Unit {0}
+IsStart row.MarkInsync d v = Unit {0}
+IsStart (row.AwaitInside looks) d v = Unit {0}
+IsStart r d v = IsRow r d v
+
+abbrev IsNext : Row → SetupData → ℕ → Type 0
+IsNext row.Serve d v = Unit {0}
+IsNext r d v = IsStart r d v
+
+go_on_stays : (r : Row) (p : Processor) → Keeps p → IsStart r p.setup p.visits → IsProcessor (go_on r p)
 go_on_stays row.LookAtSource p h k =
     let few = h.platform.few.1 in
     record { kept = h; part = (record { one_of_them = h.own; few = few }, record { same = refl; here = refl }) }
@@ -173,17 +185,17 @@ go_on_stays (row.AwaitInside looks) p h k =
     }
 go_on_stays r p h k = record { kept = h; part = k }
 
-jobs_after : (mode : Mode) (d : SetupData) (v : ℕ) → IsRow (after_jobs mode) d v
+jobs_after : (mode : Mode) (d : SetupData) (v : ℕ) → IsStart (after_jobs mode) d v
 jobs_after Traditional d v = tt
 jobs_after Relaxed d v = tt
 
-source_after : (mode : Mode) (d : SetupData) (v : ℕ) → IsRow (after_source mode) d v
+source_after : (mode : Mode) (d : SetupData) (v : ℕ) → IsNext (after_source mode) d v
 source_after Traditional d v = tt
 source_after Relaxed d v = tt
 
-jobs_row : (from : ℕ) (p : Processor) → IsRow (to_jobs from p) p.setup p.visits
+jobs_row : (from : ℕ) (p : Processor) → IsStart (to_jobs from p) p.setup p.visits
 jobs_row from p =
-    row_or_is (λ r. IsRow r p.setup p.visits) row.CollectJob (after_jobs p.setup.mode) (λ j. (j < p.setup.processors) × IsTrue (owes_job p.chair j))
+    row_or_is (λ r. IsStart r p.setup p.visits) row.CollectJob (after_jobs p.setup.mode) (λ j. (j < p.setup.processors) × IsTrue (owes_job p.chair j))
     (next_below p.setup.processors (owes_job p.chair) from) (next_is p.setup.processors (owes_job p.chair) from) (λ j h. h.0)
     (jobs_after p.setup.mode p.setup p.visits)
 
@@ -204,11 +216,11 @@ begin_stays : (chair : Option Session) (p : Processor) → IfSome chair (HasProc
 begin_stays None p same h = go_on_stays (after_jobs p.setup.mode) p h (jobs_after p.setup.mode p.setup p.visits)
 begin_stays (Some s) p same h = serve_stays (begun_session p.me p.wave s) p same h
 
-at_row_stays : (r : Row) (p : Processor) → Keeps p → IsRow r p.setup p.visits → IsProcessor (at_row r p)
+at_row_stays : (r : Row) (p : Processor) → Keeps p → IsNext r p.setup p.visits → IsProcessor (at_row r p)
 at_row_stays row.Serve p h k = begin_stays p.chair p h.chair h
 at_row_stays r p h k = go_on_stays r p h k
 
-left_stays : (o : Option Row) (p : Processor) → Keeps p → (o ≡ None → IsPart p.part p.setup p.visits p.chair) → IfSome o (λ r. IsRow r p.setup p.visits) → IsProcessor (left_to o p)
+left_stays : (o : Option Row) (p : Processor) → Keeps p → (o ≡ None → IsPart p.part p.setup p.visits p.chair) → IfSome o (λ r. IsNext r p.setup p.visits) → IsProcessor (left_to o p)
 left_stays None p h here next = record { kept = h; part = here refl }
 left_stays (Some r) p h here next = at_row_stays r p h next
 
@@ -310,7 +322,7 @@ row_stays row.WithdrawReport p found h k here = record { kept = h; part = tt }
 row_stays row.TellDismissed p found h k here = record { kept = h; part = tt }
 row_stays row.AwaitSessionEnd p found h k here = record { kept = h; part = tt }
 row_stays row.ClearSignal p found h k here = resumed_stays (own_desk p) p h (h.kinds p.me)
-row_stays _ p found h k here = record { kept = h; part = here }
+row_stays _ p found h k here = absurd k
 
 -- THE PARTS
 
@@ -334,7 +346,7 @@ entry_same row.ClaimBsp e found = entry_elected (found == LOCKED) e
 entry_same row.LookAtBsp e found = entry_elected (found == e.me) e
 entry_same _ e found = refl
 
-entry_next : (d : SetupData) (v : ℕ) (r : Row) → IsAfterEntry r → IsRow r d v
+entry_next : (d : SetupData) (v : ℕ) (r : Row) → IsAfterEntry r → IsNext r d v
 entry_next d v row.MarkInside h = tt
 entry_next d v (row.AwaitInside looks) h = tt
 entry_next d v row.AwaitSessionEnd h = tt
@@ -345,7 +357,7 @@ entry_stays e p found h k =
     let t = entry.taken e.row e found in
     left_stays (entry.left_of t.after.row) (record p { part = Entering t.after }) h
     (λ here. (entry_bounds.stays_within e found k.0, record { same = entry_same e.row e found ∙ k.1.same; here = here }))
-    (weaken (entry.left_of t.after.row) IsAfterEntry (λ r. IsRow r p.setup p.visits) (entry_next p.setup p.visits) (entry_leaves_to e.row e found k.1.here))
+    (weaken (entry.left_of t.after.row) IsAfterEntry (λ r. IsNext r p.setup p.visits) (entry_next p.setup p.visits) (entry_leaves_to e.row e found k.1.here))
 
 gather_looked : (b last : Bool) (counted round : ℕ) (again after : Row) (g : gather.GatherPosition) → (gather.looked b last counted round again after g).after.processors ≡ g.processors
 gather_looked true last counted round again after g = refl
@@ -362,15 +374,15 @@ gather_same (row.GatherSecond looks) g found =
     gather_looked (gather.have_come g.processors g.blocked found) (is_last_look looks g.second_looks) found 2 (row.GatherSecond (looks + 1)) row.MarkInsync g
 gather_same _ g found = refl
 
-gather_next : (d : SetupData) (v : ℕ) (r : Row) → r ≡ row.MarkInsync → IsRow r d v
-gather_next d v r e = subst (λ x. IsRow x d v) (sym e) tt
+gather_next : (d : SetupData) (v : ℕ) (r : Row) → r ≡ row.MarkInsync → IsNext r d v
+gather_next d v r e = subst (λ x. IsNext x d v) (sym e) tt
 
 gather_stays : (g : gather.GatherPosition) (p : Processor) (found : ℕ) → Keeps p → IsPart (Gathering g) p.setup p.visits p.chair → IsProcessor (gather_taken (gather.taken g.row g found) p).after
 gather_stays g p found h k =
     let t = gather.taken g.row g found in
     left_stays (gather.left_of t.after.row) (record p { part = Gathering t.after }) h
     (λ here. (gather_bounds.stays_within g found k.0, record { same = gather_same g.row g found ∙ k.1.same; here = here }))
-    (weaken (gather.left_of t.after.row) (λ r. r ≡ row.MarkInsync) (λ r. IsRow r p.setup p.visits) (gather_next p.setup p.visits) (gathering_leaves_to g.row g found k.1.here))
+    (weaken (gather.left_of t.after.row) (λ r. r ≡ row.MarkInsync) (λ r. IsNext r p.setup p.visits) (gather_next p.setup p.visits) (gathering_leaves_to g.row g found k.1.here))
 
 close_same : (r : Row) (c : close.ClosePosition) (found : ℕ) → (close.taken r c found).after.processors ≡ c.processors
 close_same row.MarkInsync c found = refl
@@ -379,12 +391,12 @@ close_same (row.AwaitReports left) c found = refl
 close_same (row.TakeDesk cpu) c found = refl
 close_same _ c found = refl
 
-closed_row : (d : SetupData) (v : ℕ) (b : Bool) → IsRow (close.after_close b) d v
+closed_row : (d : SetupData) (v : ℕ) (b : Bool) → IsNext (close.after_close b) d v
 closed_row d v true = tt
 closed_row d v false = tt
 
-close_next : (d : SetupData) (v : ℕ) (b : Bool) (r : Row) → r ≡ close.after_close b → IsRow r d v
-close_next d v b r e = subst (λ x. IsRow x d v) (sym e) (closed_row d v b)
+close_next : (d : SetupData) (v : ℕ) (b : Bool) (r : Row) → r ≡ close.after_close b → IsNext r d v
+close_next d v b r e = subst (λ x. IsNext x d v) (sym e) (closed_row d v b)
 
 close_part : (c : close.ClosePosition) (p : Processor) (found : ℕ) → Keeps p → IsPart (Closing c) p.setup p.visits p.chair → IsProcessor (close_taken (close.taken c.row c found) p).after
 close_part c p found h k =
@@ -392,7 +404,7 @@ close_part c p found h k =
     let on = close_stays c found k.0 in
     left_stays (close.left_of t.after.row) (record p { part = Closing t.after }) h
     (λ here. (on, record { same = close_same c.row c found ∙ k.1.same; here = here }))
-    (weaken (close.left_of t.after.row) (λ r. r ≡ close.after_close t.after.relaxed) (λ r. IsRow r p.setup p.visits) (close_next p.setup p.visits t.after.relaxed) (close_leaves t.after on))
+    (weaken (close.left_of t.after.row) (λ r. r ≡ close.after_close t.after.relaxed) (λ r. IsNext r p.setup p.visits) (close_next p.setup p.visits t.after.relaxed) (close_leaves t.after on))
 
 exit_same : (r : Row) (e : exit.ExitPosition) (found : ℕ) → (exit.taken r e found).after.processors ≡ e.processors
 exit_same (row.Release cpu) e found = refl
@@ -404,8 +416,8 @@ exit_same row.LeaveInsync e found = refl
 exit_same row.UnlockCounter e found = refl
 exit_same _ e found = refl
 
-exit_next : (d : SetupData) (v : ℕ) (r : Row) → r ≡ row.AwaitSessionEnd → IsRow r d v
-exit_next d v r e = subst (λ x. IsRow x d v) (sym e) tt
+exit_next : (d : SetupData) (v : ℕ) (r : Row) → r ≡ row.AwaitSessionEnd → IsNext r d v
+exit_next d v r e = subst (λ x. IsNext x d v) (sym e) tt
 
 exit_part : (e : exit.ExitPosition) (p : Processor) (found : ℕ) → Keeps p → IsPart (Exiting e) p.setup p.visits p.chair → IsProcessor (exit_taken (exit.taken e.row e found) p).after
 exit_part e p found h k =
@@ -413,7 +425,7 @@ exit_part e p found h k =
     let on = exit_stays e found k.0 in
     left_stays (exit.left_of t.after.row) (record p { part = Exiting t.after }) h
     (λ here. (on, record { same = exit_same e.row e found ∙ k.1.same; here = here }))
-    (weaken (exit.left_of t.after.row) (λ r. r ≡ row.AwaitSessionEnd) (λ r. IsRow r p.setup p.visits) (exit_next p.setup p.visits) (exit_leaves t.after on))
+    (weaken (exit.left_of t.after.row) (λ r. r ≡ row.AwaitSessionEnd) (λ r. IsNext r p.setup p.visits) (exit_next p.setup p.visits) (exit_leaves t.after on))
 
 report_either : (b : Bool) (s t : Taken report.ReportPosition) (n : ℕ) → s.after.processors ≡ n → t.after.processors ≡ n → (if b then s else t).after.processors ≡ n
 report_either true s t n d e = d
@@ -434,7 +446,7 @@ report_same row.Report q found = refl
 report_same row.TellReported q found = refl
 report_same _ q found = refl
 
-report_next : (d : SetupData) (v : ℕ) (r : Row) → IsAfterReport r → IsRow r d v
+report_next : (d : SetupData) (v : ℕ) (r : Row) → IsAfterReport r → IsNext r d v
 report_next d v row.AwaitRelease h = tt
 report_next d v row.AwaitSessionEnd h = tt
 report_next d v _ h = absurd h
@@ -446,7 +458,7 @@ known_below row.AwaitRelease bsp n h = h
 known_below _ bsp n h = tt
 
 known_stays : (o : Option ℕ) (left : Option Row) (p : Processor) → Keeps p → IfSome o (λ b. b < p.setup.processors)
-    → (left ≡ None → IsPart p.part p.setup p.visits p.chair) → IfSome left (λ r. IsRow r p.setup p.visits) → IsProcessor (left_to left (known_bsp o p))
+    → (left ≡ None → IsPart p.part p.setup p.visits p.chair) → IfSome left (λ r. IsNext r p.setup p.visits) → IsProcessor (left_to left (known_bsp o p))
 known_stays None left p h below here next = left_stays left p h here next
 known_stays (Some b) left p h below here next =
     left_stays left (record p { bsp = b })
@@ -472,7 +484,7 @@ report_part q p answer h k accepted =
     known_stays (report.bsp_of t.after.row t.after.bsp) (report.left_of t.after.row) (record p { part = Reporting t.after }) h
     (known_below t.after.row t.after.bsp p.setup.processors (subst (λ n. t.after.bsp < n) same below))
     (λ here. (on, record { same = same; here = here }))
-    (weaken (report.left_of t.after.row) IsAfterReport (λ r. IsRow r p.setup p.visits) (report_next p.setup p.visits) (report_leaves_to q.row q (found_of answer) k.1.here))
+    (weaken (report.left_of t.after.row) IsAfterReport (λ r. IsNext r p.setup p.visits) (report_next p.setup p.visits) (report_leaves_to q.row q (found_of answer) k.1.here))
 
 serving_part : (chair : Option Session) (p : Processor) (found : ℕ) → Keeps p → IfSome chair (HasProcessors p.setup.processors) → IsServing p.setup.processors chair
     → IsProcessor (taken_serving chair p found).after
@@ -521,19 +533,19 @@ ended_stays true c e h =
     record { platform = h.platform; first = omega arith; last = omega (arith, less); row = tt }
 ended_stays false c e h = off_stays 0 (nat_lt 0 c.setup.processors) c refl h
 
-wave_stays : (r : Option Row) (c : Chipset) (found : ℕ) → IsChipset c → IsChipset (taken_at_row r c found).after
-wave_stays None c found h = h
-wave_stays (Some row.AnnounceBlocked) c found h = record { platform = h.platform; first = h.first; last = h.last; row = tt }
-wave_stays (Some row.AnnounceWave) c found h = raised_stays 0 (nat_lt 0 c.setup.processors) c refl h
-wave_stays (Some (row.RaiseWave cpu)) c found h = raised_stays (cpu + 1) (nat_lt (cpu + 1) c.setup.processors) c refl h
-wave_stays (Some (row.WatchSource looks)) c found h = watched_stays looks found (chipset.is_watched c looks found) c refl h
-wave_stays (Some row.AwaitServed) c found h = ended_stays (nat_lt c.wave (length c.setup.waves)) c refl h
-wave_stays (Some (row.RaiseOff cpu)) c found h = off_stays (cpu + 1) (nat_lt (cpu + 1) c.setup.processors) c refl h
-wave_stays (Some _) c found h = h
+wave_stays : (r : Option Row) (c : Chipset) (found : ℕ) → IsChipset c → IsChipsetRow r c → IsChipset (taken_at_row r c found).after
+wave_stays None c found h k = h
+wave_stays (Some row.AnnounceBlocked) c found h k = record { platform = h.platform; first = h.first; last = h.last; row = tt }
+wave_stays (Some row.AnnounceWave) c found h k = raised_stays 0 (nat_lt 0 c.setup.processors) c refl h
+wave_stays (Some (row.RaiseWave cpu)) c found h k = raised_stays (cpu + 1) (nat_lt (cpu + 1) c.setup.processors) c refl h
+wave_stays (Some (row.WatchSource looks)) c found h k = watched_stays looks found (chipset.is_watched c looks found) c refl h
+wave_stays (Some row.AwaitServed) c found h k = ended_stays (nat_lt c.wave (length c.setup.waves)) c refl h
+wave_stays (Some (row.RaiseOff cpu)) c found h k = off_stays (cpu + 1) (nat_lt (cpu + 1) c.setup.processors) c refl h
+wave_stays (Some _) c found h k = absurd k
 
 pub taken_stays : (a : Actor) (answer : Applied) → IsActor a → Accepts (want_of a) answer → IsActor (taken a (found_of answer)).after
 taken_stays (OfProcessor p) answer h accepted = part_stays p.part p answer h.kept h.part h.part accepted
-taken_stays (OfChipset c) answer h accepted = wave_stays c.row c (found_of answer) h
+taken_stays (OfChipset c) answer h accepted = wave_stays c.row c (found_of answer) h h.row
 
 -- THE START
 

@@ -54,7 +54,7 @@ row_within row.WithdrawReport me bsp visits d own there h = (own, omega arith)
 row_within row.TellDismissed me bsp visits d own there h = (there, tt)
 row_within row.AwaitSessionEnd me bsp visits d own there h = (tt, (omega arith, omega arith))
 row_within row.ClearSignal me bsp visits d own there h = (own, tt)
-row_within _ me bsp visits d own there h = tt
+row_within _ me bsp visits d own there h = absurd h
 
 pub lt_of : (a b : ℕ) → nat_lt a b ≡ true → a < b
 lt_of a b h = grind arith
@@ -97,7 +97,7 @@ chipset_within (Some (row.RaiseWave cpu)) c h k = (k, signal_few (slice_index_or
 chipset_within (Some (row.WatchSource looks)) c h k = (tt, tt)
 chipset_within (Some row.AwaitServed) c h k = (tt, (omega arith, omega arith))
 chipset_within (Some (row.RaiseOff cpu)) c h k = (k, omega arith)
-chipset_within (Some _) c h k = tt
+chipset_within (Some _) c h k = absurd k
 
 pub want_within : (a : Actor) → IsActor a → IsWantWithin (processors_of a) (want_of a)
 want_within (OfProcessor p) h = part_within p.part p h.kept.own h.kept.bsp h.part

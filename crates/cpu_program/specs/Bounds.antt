@@ -26,11 +26,23 @@ pub record GoesOn (processors n : ℕ) (left : Option Row) : Type 0 where
   pub same : n ≡ processors
   pub here : left ≡ None
 
--- a visit is to begin only where one is left, and a job is collected from a processor of the platform
+-- the rows between the parts: a visit is to begin only where one is left, and a job is collected from a processor of the platform
 abbrev pub IsRow : Row → SetupData → ℕ → Type 0
 IsRow row.AwaitSmi d visits = visits < d.visits
+IsRow row.SwitchOff d visits = Unit {0}
+IsRow row.MarkInside d visits = Unit {0}
+IsRow row.TakeSource d visits = Unit {0}
 IsRow (row.CollectJob cpu) d visits = cpu < d.processors
-IsRow _ d visits = Unit {0}
+IsRow row.LeaveInside d visits = Unit {0}
+IsRow row.AwaitRelease d visits = Unit {0}
+IsRow row.GiveDeskBack d visits = Unit {0}
+IsRow row.TellReleased d visits = Unit {0}
+IsRow row.AwaitDismissal d visits = Unit {0}
+IsRow row.WithdrawReport d visits = Unit {0}
+IsRow row.TellDismissed d visits = Unit {0}
+IsRow row.AwaitSessionEnd d visits = Unit {0}
+IsRow row.ClearSignal d visits = Unit {0}
+IsRow _ d visits = ⊥
 
 -- the session is there, and has told a need, which names a processor of the platform
 abbrev pub IsServing : ℕ → Option Session → Type 0
@@ -96,12 +108,16 @@ pub record HasImages (p : ProcessorFields) : Type 0 where
   pub registers : p.registers.kind ≡ p.setup.kind
   pub kinds : AreOfKind p.setup.kind p.held.desks
 
--- an interrupt is raised at a processor of the platform
+-- the rows of the chipset: an interrupt is raised at a processor of the platform, and a look for the wave to be taken is left
 abbrev pub IsChipsetRow : Option Row → Chipset → Type 0
+IsChipsetRow None c = Unit {0}
+IsChipsetRow (Some row.AnnounceBlocked) c = Unit {0}
+IsChipsetRow (Some row.AnnounceWave) c = Unit {0}
 IsChipsetRow (Some (row.RaiseWave cpu)) c = cpu < c.setup.processors
-IsChipsetRow (Some (row.RaiseOff cpu)) c = cpu < c.setup.processors
 IsChipsetRow (Some (row.WatchSource looks)) c = looks < c.setup.t1 + c.setup.t2
-IsChipsetRow _ c = Unit {0}
+IsChipsetRow (Some row.AwaitServed) c = Unit {0}
+IsChipsetRow (Some (row.RaiseOff cpu)) c = cpu < c.setup.processors
+IsChipsetRow (Some _) c = ⊥
 
 -- the wave is one of the platform's
 pub record IsChipset (c : Chipset) : Type 0 where
