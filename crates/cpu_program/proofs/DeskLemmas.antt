@@ -41,7 +41,7 @@ put_bit : (held : Desks) (cpu bits : ℕ) → cpu < 64 → is_held held cpu ≡ 
     → is_set (bit_or bits (1 * 2 ^ cpu % 2 ^ 64)) k ≡ is_held held k
 put_bit held cpu bits few is h k less =
     elim (cases_eq k cpu) [
-      inl e ↦ subst (λ n. is_set (bit_or bits (1 * 2 ^ cpu % 2 ^ 64)) n ≡ is_held held n) (sym e) (ap (λ n. n == 1) (bit_at_set_same w64 bits cpu few) ∙ sym is)
+      | inl e ↦ subst (λ n. is_set (bit_or bits (1 * 2 ^ cpu % 2 ^ 64)) n ≡ is_held held n) (sym e) (ap (λ n. n == 1) (bit_at_set_same w64 bits cpu few) ∙ sym is)
       | inr ne ↦ ap (λ n. n == 1) (bit_at_set_other w64 bits cpu few k ne) ∙ h.bit k (omega (arith, less, ne))
     ]
 
@@ -53,7 +53,7 @@ bits_put held cpu bits next few is put h =
 past_bit : (held : Desks) (cpu bits : ℕ) → is_held held cpu ≡ false → IsBitsOf held cpu bits → (k : ℕ) → k < cpu + 1 → is_set bits k ≡ is_held held k
 past_bit held cpu bits is h k less =
     elim (cases_eq k cpu) [
-      inl e ↦ subst (λ n. is_set bits n ≡ is_held held n) (sym e) (none_set bits cpu cpu h.fits (omega arith) ∙ sym is)
+      | inl e ↦ subst (λ n. is_set bits n ≡ is_held held n) (sym e) (none_set bits cpu cpu h.fits (omega arith) ∙ sym is)
       | inr ne ↦ h.bit k (omega (arith, less, ne))
     ]
 
@@ -68,7 +68,7 @@ held_past held k past = get_or_past (map is_some held) k false (rw (length-map h
 each_bit : (held : Desks) (cpu bits : ℕ) → length held ≤ cpu → IsBitsOf held cpu bits → (k : ℕ) → is_set bits k ≡ is_held held k
 each_bit held cpu bits past h k =
     elim (cases_lt k cpu) [
-      inl less ↦ h.bit k less
+      | inl less ↦ h.bit k less
       | inr more ↦ none_set bits cpu k h.fits more ∙ sym (held_past held k (omega (arith, past, more)))
     ]
 

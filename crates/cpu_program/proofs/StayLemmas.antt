@@ -113,8 +113,8 @@ got_desk : (p : Processor) (k : ℕ) (desk : Desk) (b : Bool) → is_kind desk.i
 got_desk p k desk true e h =
     record {
       kept =
-        with_desks (slice_set p.held k (Some desk)) h.kept (length-set p.held k (Some desk))
-        (set_kind p.setup.kind p.held k (Some desk) h.kept.kinds (kind_of desk.image.kind p.setup.kind e));
+          with_desks (slice_set p.held k (Some desk)) h.kept (length-set p.held k (Some desk))
+          (set_kind p.setup.kind p.held k (Some desk) h.kept.kinds (kind_of desk.image.kind p.setup.kind e));
       part = h.part;
     }
 got_desk p k desk false e h = h
@@ -164,7 +164,7 @@ go_on_stays row.LookAtExcept p h k =
     record {
       kept = h;
       part =
-        (record { one_of_them = h.own; few = h.platform.few.1; first = h.platform.first; second = h.platform.second; at_row = tt }, record { same = refl; here = refl });
+          (record { one_of_them = h.own; few = h.platform.few.1; first = h.platform.first; second = h.platform.second; at_row = tt }, record { same = refl; here = refl });
     }
 go_on_stays row.MarkInsync p h k =
     record { kept = h; part = (record { few = h.platform.few.1; own = h.own; row = tt }, record { same = refl; here = refl }) }
@@ -173,15 +173,17 @@ go_on_stays (row.AwaitInside looks) p h k =
     let first = h.platform.first.0 in
     record {
       kept = h;
-      part =
-        (record {
+      part = (
+        record {
           one_of_them = h.own;
           few = h.platform.few.1;
           first = h.platform.first;
           second = h.platform.second;
           bsp = omega (arith, some);
           at_row = omega (arith, first);
-        }, record { same = refl; here = refl });
+        },
+        record { same = refl; here = refl },
+      );
     }
 go_on_stays r p h k = record { kept = h; part = k }
 
@@ -234,16 +236,20 @@ exit_goes_on p =
     any : (o : Option ℕ) → IfSome o (λ j. Unit {0})
     any None = tt
     any (Some j) = tt
+
     rounds : (b : Bool) → exit.left_of (exit.after_rounds b) ≡ None
     rounds true = refl
     rounds false = refl
+
     dismissed : (b : Bool) → exit.left_of (if b then exit.after_rounds p.elected else row.AwaitDismissed (exit.ap_count p)) ≡ None
     dismissed true = rounds p.elected
     dismissed false = refl
+
     dismissals : exit.left_of (exit.to_dismissals p 0) ≡ None
     dismissals =
         row_or_is (λ r. exit.left_of r ≡ None) row.Dismiss (exit.to_dismissed p (exit.ap_count p)) (λ j. Unit {0}) (next_below p.processors (exit.is_ap p) 0)
         (any (next_below p.processors (exit.is_ap p) 0)) (λ j h. refl) (dismissed (exit.ap_count p == 0))
+
     released : (b : Bool) → exit.left_of (if b then exit.to_dismissals p 0 else row.AwaitReleased (exit.ap_count p)) ≡ None
     released true = dismissals
     released false = refl
@@ -254,7 +260,7 @@ exit_stays_at p h =
     record {
       kept = h;
       part =
-        (exit_begins at (exit.to_releases at 0) refl (record { few = h.platform.few.1; own = h.own; row = tt }), record { same = refl; here = exit_goes_on at });
+          (exit_begins at (exit.to_releases at 0) refl (record { few = h.platform.few.1; own = h.own; row = tt }), record { same = refl; here = exit_goes_on at });
     }
 
 entered_stays : (p : Processor) → Keeps p → p.visits < p.setup.visits → IsProcessor (entered p)
@@ -287,17 +293,17 @@ resumed_stays None p h kind = record { kept = h; part = await_row p (nat_le p.se
 resumed_stays (Some desk) p h kind =
     record {
       kept =
-        record {
-          platform = h.platform;
-          own = h.own;
-          bsp = h.bsp;
-          visits = h.visits;
-          held = h.held;
-          kinds = h.kinds;
-          registers = kind;
-          last = kind;
-          chair = h.chair;
-        };
+          record {
+            platform = h.platform;
+            own = h.own;
+            bsp = h.bsp;
+            visits = h.visits;
+            held = h.held;
+            kinds = h.kinds;
+            registers = kind;
+            last = kind;
+            chair = h.chair;
+          };
       part = await_row p (nat_le p.setup.visits p.visits) refl;
     }
 
@@ -562,17 +568,17 @@ first_stays d me image registers chair platform own kind kinds same =
     let desk : Option Desk = Some (record { image = image; job = None }) in
     record {
       kept =
-        record {
-          platform = platform;
-          own = own;
-          bsp = omega (arith, some);
-          visits = omega (arith, visits);
-          held = length-set (replicate d.processors None) me desk ∙ length-replicate d.processors None;
-          kinds = set_kind d.kind (replicate d.processors None) me desk (none_kind d.kind d.processors) kind;
-          registers = kinds;
-          last = kind;
-          chair = same;
-        };
+          record {
+            platform = platform;
+            own = own;
+            bsp = omega (arith, some);
+            visits = omega (arith, visits);
+            held = length-set (replicate d.processors None) me desk ∙ length-replicate d.processors None;
+            kinds = set_kind d.kind (replicate d.processors None) me desk (none_kind d.kind d.processors) kind;
+            registers = kinds;
+            last = kind;
+            chair = same;
+          };
       part = omega (arith, visits);
     }
 

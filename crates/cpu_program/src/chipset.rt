@@ -163,7 +163,10 @@ fn count_blocked(arrivals: &[Arrival]) -> u32
     requires { length arrivals.now ≤ 64 }
     ensures { result ≡ count_by is_blocked arrivals.now }
 {
-    arrivals.iter().filter(|arrival| is_blocked(**arrival)).count() as u32
+    arrivals
+        .iter()
+        .filter(|arrival| is_blocked(**arrival))
+        .count() as u32
 }
 
 fn is_blocked(arrival: Arrival) -> bool

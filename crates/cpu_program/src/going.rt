@@ -34,7 +34,12 @@ impl Processor {
         ensures { result ≡ close_begun (processor_in self.now) }
     {
         let held = held_bits(&self.held.desks);
-        Close::new(self.setup.processors, self.me, held, is_relaxed(self.setup.mode))
+        Close::new(
+            self.setup.processors,
+            self.me,
+            held,
+            is_relaxed(self.setup.mode),
+        )
     }
 
     fn exit(&self) -> Exit
@@ -42,7 +47,12 @@ impl Processor {
         ensures { result ≡ exit_begun (processor_in self.now) }
     {
         let held = held_bits(&self.held.desks);
-        Exit::new(self.setup.processors, self.me, held, is_elected(self.setup.policy))
+        Exit::new(
+            self.setup.processors,
+            self.me,
+            held,
+            is_elected(self.setup.policy),
+        )
     }
 
     /// The way out of the others begins.

@@ -40,7 +40,14 @@ pub struct Processor {
 
 impl Processor {
     /// A processor that waits for its interrupt, with its own desk, which has its image and no job.
-    pub fn new(setup: Setup, me: u16, image: &Image, registers: Regs, held: Held, chair: Option<Server>) -> Processor
+    pub fn new(
+        setup: Setup,
+        me: u16,
+        image: &Image,
+        registers: Regs,
+        held: Held,
+        chair: Option<Server>,
+    ) -> Processor
         requires { held.desks ≡ held_at_first setup.processors me image.now }
         ensures { processor_in result ≡ first_processor (data_of setup) me image.now registers chair }
     {
@@ -113,7 +120,12 @@ impl Processor {
 }
 
 /// The desks that a processor holds at first: its own, which has its image and no job.
-pub fn held_at_first(alloc: Global, processors: u16, me: u16, image: &Image) -> Result<Held, NoMemory>
+pub fn held_at_first(
+    alloc: Global,
+    processors: u16,
+    me: u16,
+    image: &Image,
+) -> Result<Held, NoMemory>
     requires { me < processors }
     ensures { IfOk result (λ held. held.desks ≡ held_at_first processors me image.now) }
 {

@@ -2,6 +2,7 @@ ghost use Rattle.std.specs.Prelude.{◌≡◌, ◌≤◌, Some, is_some, IfOk, I
 ghost use Rattle.cpu_table.specs.Data.{data_of};
 ghost use Rattle.sync_words.specs.Steps.{Accepts, IsWantWithin, found_of, hand_of};
 ghost use Rattle.sync_words.specs.declared.event.Want.TheVariants as want;
+ghost use Rattle.cpu_program.specs.Bounds.{IsActor};
 ghost use Rattle.cpu_program.specs.Programs.{first_actor, gift_of, given, is_off, is_processor, last_of, number_of, processors_of, received, taken, want_of, IsAccess, IsWanted};
 
 use crate::cargo::Cargo;
@@ -38,7 +39,14 @@ impl Program {
     /// The program of an actor: of a processor with its first image and its registers, which are of the platform's kind, and the chair
     /// where it has it; or of the chipset, whose number is that of the processors. It takes all memory that it will use. On
     /// `NoMemory` what was handed in is dropped.
-    pub fn new(alloc: Global, setup: &Setup, actor: u16, start: Option<Image>, regs: Option<Regs>, chair: Option<Server>) -> Result<Program, NoMemory>
+    pub fn new(
+        alloc: Global,
+        setup: &Setup,
+        actor: u16,
+        start: Option<Image>,
+        regs: Option<Regs>,
+        chair: Option<Server>,
+    ) -> Result<Program, NoMemory>
         requires actor { actor ≤ setup.now.processors }
         requires image { (is_some start) ≡ (is_processor setup.now.processors actor) }
         requires registers { (is_some regs) ≡ (is_processor setup.now.processors actor) }
@@ -56,6 +64,7 @@ impl Program {
     pub fn want(&self) -> Want
         ensures want { result ≡ want_of self.now }
         ensures within { IsWantWithin (processors_of self.now) result }
+        ensures bounds { IsActor self.now }
     {
         self.state.want()
     }
@@ -75,6 +84,7 @@ impl Program {
         requires { IsSome (gift_of self.old) }
         ensures gift { Some result ≡ gift_of self.old }
         ensures after { self.new ≡ given self.old }
+        ensures wants { want_of self.new ≡ want_of self.old }
     {
         self.state.give()
     }
@@ -82,7 +92,8 @@ impl Program {
     /// Receives what it wants to take, or takes back what it gave just before and what didn't move. It is safe for every cargo: what
     /// doesn't fit is dropped.
     pub fn receive(&mut self, cargo: Cargo)
-        ensures { self.new ≡ received cargo self.old }
+        ensures after { self.new ≡ received cargo self.old }
+        ensures wants { want_of self.new ≡ want_of self.old }
     {
         self.state.receive(cargo);
     }

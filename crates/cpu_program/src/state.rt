@@ -25,7 +25,14 @@ pub enum State {
 
 impl State {
     /// The actor at first: a processor where it has an image and registers.
-    pub fn new(alloc: Global, setup: &Setup, actor: u16, start: Option<Image>, regs: Option<Regs>, chair: Option<Server>) -> Result<State, NoMemory>
+    pub fn new(
+        alloc: Global,
+        setup: &Setup,
+        actor: u16,
+        start: Option<Image>,
+        regs: Option<Regs>,
+        chair: Option<Server>,
+    ) -> Result<State, NoMemory>
         requires { IsSome start → actor < setup.now.processors }
         ensures { IfOk result (λ state. actor_in state ≡ first_actor (data_of setup.now) actor start regs chair) }
     {

@@ -10,7 +10,7 @@ pub loop-cpu-preserved : goal.loop-cpu-preserved
 loop-cpu-preserved c =
     let below : c.loop-cpu.cpu < 64 = omega (arith, c.loop-cpu-test.true, c.len-cpu-end.ensures, c.requires) in
     elim c.if-is_held.branch [
-      then-is_held w ↦ bits_put c.args.held.now c.loop-cpu.cpu c.loop-cpu.bits c.if-is_held.bits below (sym c.is_held.ensures ∙ w.if-is_held.true) w.bits-is c.loop-cpu.invariant
+      | then-is_held w ↦ bits_put c.args.held.now c.loop-cpu.cpu c.loop-cpu.bits c.if-is_held.bits below (sym c.is_held.ensures ∙ w.if-is_held.true) w.bits-is c.loop-cpu.invariant
       | else-is_held w ↦ bits_past c.args.held.now c.loop-cpu.cpu c.loop-cpu.bits c.if-is_held.bits (sym c.is_held.ensures ∙ w.if-is_held.false) w.bits-is c.loop-cpu.invariant
     ]
 

@@ -11,11 +11,11 @@ serve_on-requires c =
     record {
       own = c.requires.ready.own;
       held =
-        ap (λ (held : Desks). length held) c.answer-label.ensures.desks ∙ answered_len c.in-Some.server.told c.args.found c.args.self.now.held.desks
-        ∙ c.requires.ready.held;
+          ap (λ (held : Desks). length held) c.answer-label.ensures.desks ∙ answered_len c.in-Some.server.told c.args.found c.args.self.now.held.desks
+          ∙ c.requires.ready.held;
       chair =
-        ap (λ (s : Session). s.setup.processors) c.answer-label.ensures.after
-        ∙ subst (λ (o : Option Session). IfSome o (HasProcessors c.args.self.now.setup.processors)) c.in-Some.is c.requires.ready.chair;
+          ap (λ (s : Session). s.setup.processors) c.answer-label.ensures.after
+          ∙ subst (λ (o : Option Session). IfSome o (HasProcessors c.args.self.now.setup.processors)) c.in-Some.is c.requires.ready.chair;
     }
 
 pub answer-label-requires-clause-stand_in : goal.answer-label-requires-clause-stand_in
