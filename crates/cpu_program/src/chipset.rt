@@ -3,6 +3,7 @@ ghost use Rattle.cpu_program.specs.Bounds.{IsChipset, IsPlatform};
 ghost use Rattle.cpu_program.specs.Views.{chipset_in};
 ghost use Rattle.std.specs.List.{count_by};
 ghost use Rattle.cpu_table.specs.Data.{data_of};
+ghost use Rattle.sync_words.specs.declared.label.Label.TheVariants.{Silent};
 ghost use Rattle.cpu_program.specs.Chipsets.{after_wave, arrivals_of, blocked_in, is_blocked, off_row, raise_row, signal_for, signal_in, watched_row};
 ghost use Rattle.cpu_program.specs.Programs.{first_chipset, want_at_row, taken_at_row};
 
@@ -62,24 +63,20 @@ impl Chipset {
                 self.row = Some(self.raise_from(0));
                 Label::Wave(self.wave)
             }
-            Some(Row::RaiseWave(cpu)) => {
-                self.row = Some(self.raise_from(cpu + 1));
-                Label::Silent
-            }
-            Some(Row::WatchSource(looks)) => {
-                self.row = Some(self.watched(looks, found));
-                Label::Silent
-            }
-            Some(Row::AwaitServed) => {
-                self.end_wave();
-                Label::Silent
-            }
-            Some(Row::RaiseOff(cpu)) => {
-                self.row = self.off_from(cpu + 1);
-                Label::Silent
-            }
+            Some(Row::RaiseWave(cpu)) => self.goes(Some(self.raise_from(cpu + 1))),
+            Some(Row::WatchSource(looks)) => self.goes(Some(self.watched(looks, found))),
+            Some(Row::AwaitServed) => self.end_wave(),
+            Some(Row::RaiseOff(cpu)) => self.goes(self.off_from(cpu + 1)),
             _ => Label::Silent,
         }
+    }
+
+    fn goes(&mut self, row: Option<Row>) -> Label
+        ensures label { result ≡ Silent }
+        ensures after { chipset_in self.new ≡ record (chipset_in self.old) { row = row } }
+    {
+        self.row = row;
+        Label::Silent
     }
 
     // The row of the next processor of the wave, or the first look for the wave to be taken.
@@ -116,8 +113,9 @@ impl Chipset {
     }
 
     // The next wave is announced, or after the last the signals are turned off.
-    fn end_wave(&mut self)
-        ensures { chipset_in self.new ≡ after_wave (chipset_in self.old) }
+    fn end_wave(&mut self) -> Label
+        ensures label { result ≡ Silent }
+        ensures after { chipset_in self.new ≡ after_wave (chipset_in self.old) }
     {
         if (self.wave as usize) < self.setup.waves.len() {
             self.wave += 1;
@@ -125,6 +123,7 @@ impl Chipset {
         } else {
             self.row = self.off_from(0);
         }
+        Label::Silent
     }
 
     // How many processors the wave blocks.

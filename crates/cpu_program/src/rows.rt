@@ -1,9 +1,12 @@
 ghost use Rattle.std.specs.Prelude.{◌≡◌, ◌<◌, length};
 ghost use Rattle.cpu_table.specs.Data.{data_of};
+ghost use Rattle.sync_words.specs.declared.label.Label.TheVariants.{Silent, Off, Collect, Done};
+ghost use Rattle.sync_words.specs.declared.row.Row.TheVariants as row;
+ghost use Rattle.cpu_program.specs.declared.part.Part.TheVariants as gone;
 ghost use Rattle.handler_ops.specs.Answering.{taken_off};
 ghost use Rattle.cpu_program.specs.Bounds.{IsReady, HasImages, IsRow};
 ghost use Rattle.cpu_program.specs.Views.{processor_in};
-ghost use Rattle.cpu_program.specs.Processors.{between, can_run_on, job_label, job_to_run, own_desk, ran_label, taken_at, work_row};
+ghost use Rattle.cpu_program.specs.Processors.{begin_exit, between, can_run_on, job_label, job_to_run, own_desk, ran_label, taken_at, work_row};
 
 use crate::going::after_source;
 use crate::hands::can_run;
@@ -26,38 +29,14 @@ impl Processor {
         ensures after { processor_in self.new ≡ (taken_at row (processor_in self.old) found).after }
     {
         match row {
-            Row::AwaitSmi if found == DELIVERABLE => {
-                self.enter();
-                Label::Enter
-            }
-            Row::AwaitSmi | Row::SwitchOff => {
-                self.part = Part::Off;
-                Label::Off
-            }
+            Row::AwaitSmi => self.take_smi(found),
+            Row::SwitchOff => self.turn_off(),
             Row::MarkInside => self.says(Label::Silent, Row::TakeSource),
-            Row::TakeSource => {
-                self.wave = found;
-                self.at_row(after_source(self.setup.mode));
-                Label::Served(found)
-            }
-            Row::CollectJob(cpu) => {
-                take_off(&mut self.held.desks, cpu);
-                self.go_on(self.jobs_row(cpu + 1));
-                Label::Collect(cpu)
-            }
-            Row::LeaveInside => {
-                self.begin_exit();
-                Label::Done
-            }
-            Row::AwaitRelease => {
-                let next = work_row(self.has_work());
-                self.says(Label::Silent, next)
-            }
-            Row::GiveDeskBack => {
-                let label = ran_label(self.ran);
-                self.ran = None;
-                self.says(label, Row::AwaitRelease)
-            }
+            Row::TakeSource => self.take_source(found),
+            Row::CollectJob(cpu) => self.collect_job(cpu),
+            Row::LeaveInside => self.leave_inside(),
+            Row::AwaitRelease => self.take_desk_back(),
+            Row::GiveDeskBack => self.tell_of_job(),
             Row::TellReleased => self.says(Label::Silent, Row::AwaitDismissal),
             Row::AwaitDismissal => self.says(Label::Silent, Row::WithdrawReport),
             Row::WithdrawReport => self.says(Label::Depart, Row::TellDismissed),
@@ -66,6 +45,81 @@ impl Processor {
             Row::ClearSignal => self.resume(),
             _ => Label::Silent,
         }
+    }
+
+    // A deliverable signal begins a visit; the other one that is accepted says that the processor is off.
+    fn take_smi(&mut self, found: u32) -> Label
+        requires ready { IsReady self.old }
+        requires images { HasImages self.old }
+        requires left { self.old.visits < self.old.setup.visits }
+        ensures label { result ≡ (taken_at row.AwaitSmi (processor_in self.old) found).label }
+        ensures after { processor_in self.new ≡ (taken_at row.AwaitSmi (processor_in self.old) found).after }
+    {
+        if found == DELIVERABLE {
+            self.enter();
+            Label::Enter
+        } else {
+            self.turn_off()
+        }
+    }
+
+    fn turn_off(&mut self) -> Label
+        ensures label { result ≡ Off }
+        ensures after { processor_in self.new ≡ record (processor_in self.old) { part = gone.Off } }
+    {
+        self.part = Part::Off;
+        Label::Off
+    }
+
+    // The wave that was found is served.
+    fn take_source(&mut self, found: u32) -> Label
+        requires { IsReady self.old }
+        ensures label { result ≡ (taken_at row.TakeSource (processor_in self.old) found).label }
+        ensures after { processor_in self.new ≡ (taken_at row.TakeSource (processor_in self.old) found).after }
+    {
+        self.wave = found;
+        self.at_row(after_source(self.setup.mode));
+        Label::Served(found)
+    }
+
+    // The job of a processor is taken off its desk, and the next one is collected.
+    fn collect_job(&mut self, cpu: u16) -> Label
+        requires ready { IsReady self.old }
+        requires within { cpu < self.old.setup.processors }
+        ensures label { result ≡ Collect cpu }
+        ensures after { processor_in self.new ≡ (taken_at (row.CollectJob cpu) (processor_in self.old) 0).after }
+    {
+        take_off(&mut self.held.desks, cpu);
+        self.go_on(self.jobs_row(cpu + 1));
+        Label::Collect(cpu)
+    }
+
+    fn leave_inside(&mut self) -> Label
+        requires { IsReady self.old }
+        ensures label { result ≡ Done }
+        ensures after { processor_in self.new ≡ begin_exit (processor_in self.old) }
+    {
+        self.begin_exit();
+        Label::Done
+    }
+
+    // An AP has its desk back, with a job or without one.
+    fn take_desk_back(&mut self) -> Label
+        ensures label { result ≡ Silent }
+        ensures after { processor_in self.new ≡ (taken_at row.AwaitRelease (processor_in self.old) 0).after }
+    {
+        let next = work_row(self.has_work());
+        self.says(Label::Silent, next)
+    }
+
+    // The event tells of the job that was run.
+    fn tell_of_job(&mut self) -> Label
+        ensures label { result ≡ ran_label self.old.ran }
+        ensures after { processor_in self.new ≡ (taken_at row.GiveDeskBack (processor_in self.old) 0).after }
+    {
+        let label = ran_label(self.ran);
+        self.ran = None;
+        self.says(label, Row::AwaitRelease)
     }
 
     // The event says this, and the processor goes on at a row.
