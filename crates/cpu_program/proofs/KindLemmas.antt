@@ -51,7 +51,7 @@ low_keeps m (Pair low high) new = refl
 abbrev stays : ImageContents → Status → WriteAnswer
 stays m status = record { status = status; image = m }
 
-write_keeps : (m : ImageContents) (present : Bool) (number : ℕ) (new : List ℕ) → (write_answer m present number new).image.kind ≡ m.kind
+pub write_keeps : (m : ImageContents) (present : Bool) (number : ℕ) (new : List ℕ) → (write_answer m present number new).image.kind ≡ m.kind
 write_keeps m present number new =
     first_keeps m.kind
     ((length new == 0, stays m InvalidParameter)

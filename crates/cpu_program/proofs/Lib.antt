@@ -4,3 +4,4 @@ mod KindLemmas
 mod WantLemmas
 mod StayLemmas
 mod HandLemmas
+mod ReturnLemmas

@@ -1,6 +1,6 @@
 -- The laws of a program: what changes hands on which word, that what it wants is within bounds and stays while things change hands, and
 -- that it wants nothing exactly where it is off.
-use Rattle.std.specs.Prelude.{ℕ, ◌≡◌, ◌↔◌, true}
+use Rattle.std.specs.Prelude.{ℕ, ◌≡◌, ◌↔◌, true, Some}
 use Rattle.sync_words.specs.declared.event.Hand.{Hand}
 use Rattle.sync_words.specs.declared.event.Hand.TheVariants.{Nothing, Give, Take}
 use Rattle.sync_words.specs.declared.event.Want.{Want}
@@ -10,7 +10,7 @@ use Rattle.sync_words.specs.declared.word.WordId.TheVariants.{Bsp, Present, Run,
 use Rattle.sync_words.specs.Steps.{IsWantWithin}
 use Rattle.cpu_program.specs.Actors.{Actor, Cargo}
 use Rattle.cpu_program.specs.Bounds.{IsActor}
-use Rattle.cpu_program.specs.Programs.{want_of, is_off, given, received, processors_of}
+use Rattle.cpu_program.specs.Programs.{want_of, is_off, gift_of, given, received, processors_of}
 
 -- an actor that gave or received wants what it wanted before
 abbrev pub GivingKeepsWant : Type 0
@@ -47,3 +47,7 @@ WantsWithin = (a : Actor) → IsActor a → IsWantWithin (processors_of a) (want
 -- an actor wants nothing exactly where it is off
 abbrev pub OffWantsNothing : Type 0
 OffWantsNothing = (a : Actor) → IsActor a → (want_of a ≡ Off) ↔ (is_off a ≡ true)
+
+-- what was given and comes back can be given again
+abbrev pub GiftsComeBack : Type 0
+GiftsComeBack = (a : Actor) (cargo : Cargo) → IsActor a → gift_of a ≡ Some cargo → gift_of (received cargo (given a)) ≡ Some cargo

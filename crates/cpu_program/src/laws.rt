@@ -1,4 +1,4 @@
-ghost use Rattle.cpu_program.specs.Laws.{GivingKeepsWant, ReceivingKeepsWant, ThingsMoveOnTheirWords, WantsWithin, OffWantsNothing};
+ghost use Rattle.cpu_program.specs.Laws.{GivingKeepsWant, ReceivingKeepsWant, ThingsMoveOnTheirWords, WantsWithin, OffWantsNothing, GiftsComeBack};
 
 /// The laws of a program, over all actors within bounds. It does nothing when it runs.
 pub fn program_laws()
@@ -7,4 +7,5 @@ pub fn program_laws()
     ensures moves { ThingsMoveOnTheirWords }
     ensures within { WantsWithin }
     ensures off { OffWantsNothing }
+    ensures comes_back { GiftsComeBack }
 {}

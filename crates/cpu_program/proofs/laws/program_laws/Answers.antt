@@ -1,4 +1,5 @@
 use Rattle.cpu_program.proofs.HandLemmas.{things_move, off_wants}
+use Rattle.cpu_program.proofs.ReturnLemmas.{gifts_come_back}
 use Rattle.cpu_program.proofs.WantLemmas.{giving_keeps, receiving_keeps, want_within}
 use Rattle.cpu_program.proofs.laws.program_laws.Goals as goal
 
@@ -16,3 +17,6 @@ returns-clause-within c = want_within
 
 pub returns-clause-off : goal.returns-clause-off
 returns-clause-off c = off_wants
+
+pub returns-clause-comes_back : goal.returns-clause-comes_back
+returns-clause-comes_back c = gifts_come_back
