@@ -13,6 +13,7 @@ use Rattle.exit_handshake.specs.Exit as exit
 use Rattle.cpu_table.specs.Data.{SetupData}
 use Rattle.handler_ops.specs.declared.need.Need.{Need}
 use Rattle.handler_ops.specs.declared.need.Need.TheVariants as need
+use Rattle.handler_ops.specs.Course.{Desks}
 use Rattle.handler_ops.specs.Sessions.{Session}
 use Rattle.handler_ops.specs.Told.{need_as}
 use Rattle.cpu_program.specs.Actors.{Processor, Chipset, Actor, OfProcessor, OfChipset, Part, Between, Entering, Gathering, Closing, Serving, Exiting, Reporting, Off}
@@ -20,6 +21,7 @@ use Rattle.cpu_program.specs.Bounds.{IsRow, IsServing, IsPart, IsProcessor, IsCh
 use Rattle.cpu_program.specs.Laws.{MovesOnItsWord}
 use Rattle.cpu_program.specs.Processors.{want_at, want_for, want_of_session, want_in, is_at_need, is_off_part}
 use Rattle.cpu_program.specs.Programs.{want_of, want_at_row, is_off, processors_of}
+use Rattle.cpu_program.proofs.WantLemmas.{at_need}
 
 -- WHICH WORD
 
@@ -97,7 +99,7 @@ session_moves : (n : ℕ) (chair : Option Session) → MovesOnItsWord n (want_of
 session_moves n None = tt
 session_moves n (Some s) = need_moves n (need_as s.told)
 
-part_moves : (part : Part) (p : Processor) → IsPart part p.setup p.visits p.chair → MovesOnItsWord p.setup.processors (want_in part p)
+part_moves : (part : Part) (p : Processor) → IsPart part p.setup p.visits p.chair p.held → MovesOnItsWord p.setup.processors (want_in part p)
 part_moves (Between r) p h = row_moves r p.me p.bsp p.setup.processors
 part_moves (Entering e) p h = subst (λ n. MovesOnItsWord n (entry.want_of e.row e)) h.1.same (entry_moves e.row e)
 part_moves (Gathering g) p h = subst (λ n. MovesOnItsWord n (gather.want_of g.row g)) h.1.same (gather_moves g.row g)
@@ -193,19 +195,19 @@ need_wants n (need.PutBusy c) h = λ e. cc
 need_wants n (need.RaiseRun c) h = λ e. cc
 need_wants n need.Finished h = absurd cc
 
-session_wants : (n : ℕ) (chair : Option Session) → IsServing n chair → want_of_session chair ≢ want.Off
-session_wants n None h = absurd h
-session_wants n (Some s) h = need_wants n (need_as s.told) h.1
+session_wants : (n : ℕ) (chair : Option Session) (held : Desks) → IsServing n chair held → want_of_session chair ≢ want.Off
+session_wants n None held h = absurd h
+session_wants n (Some s) held h = need_wants n (need_as s.told) (at_need n s.told held h.1)
 
 no_off : (w : Want) → w ≢ want.Off → (w ≡ want.Off) ↔ (false ≡ true)
 no_off w h = (λ e. absurd (h e), λ e. absurd cc)
 
-part_off : (part : Part) (p : Processor) → IsPart part p.setup p.visits p.chair → (want_in part p ≡ want.Off) ↔ (is_off_part part ≡ true)
+part_off : (part : Part) (p : Processor) → IsPart part p.setup p.visits p.chair p.held → (want_in part p ≡ want.Off) ↔ (is_off_part part ≡ true)
 part_off (Between r) p h = no_off (want_at r p.me p.bsp) (row_wants r p.me p.bsp p.visits p.setup h)
 part_off (Entering e) p h = no_off (entry.want_of e.row e) (entry_wants e.row e h.1.here)
 part_off (Gathering g) p h = no_off (gather.want_of g.row g) (gather_wants g.row g h.1.here)
 part_off (Closing c) p h = no_off (close.want_of c.row c) (close_wants c.row c h.1.here)
-part_off Serving p h = no_off (want_of_session p.chair) (session_wants p.setup.processors p.chair h)
+part_off Serving p h = no_off (want_of_session p.chair) (session_wants p.setup.processors p.chair p.held h)
 part_off (Exiting e) p h = no_off (exit.want_of e.row e) (exit_wants e.row e h.1.here)
 part_off (Reporting r) p h = no_off (report.want_of r.row r) (report_wants r.row r h.1.here)
 part_off Off p h = (λ e. refl, λ e. refl)

@@ -47,10 +47,10 @@ use Rattle.cpu_program.specs.Actors.{Processor, Chipset, Actor, OfProcessor, OfC
 use Rattle.cpu_program.specs.Bounds.{GoesOn, IsRow, IsServing, IsPart, IsPlatform, IsOfKind, AreOfKind, HasProcessors, IsKept, Keeps, IsProcessor, IsChipsetRow, IsChipset, IsActor}
 use Rattle.cpu_program.specs.Chipsets as chipset
 use Rattle.cpu_program.specs.Hands.{is_kind, is_giving_back, ran_after, desk_left, after_receiving}
-use Rattle.cpu_program.specs.Processors.{want_in, is_at_need, own_desk, desks_held, is_elected, between, go_on, begin_exit, exit_begun, close_begun, to_await, after_source, after_jobs, owes_job, to_jobs, with_need, told_need, serve_on, begin_serving, at_row, taken_serving, next_cause, desk_saved, entered, resumed, work_row, taken_at, left_to, known_bsp, entry_taken, gather_taken, close_taken, exit_taken, report_taken, taken_in, job_to_run}
+use Rattle.cpu_program.specs.Processors.{want_in, can_serve, own_desk, desks_held, is_elected, between, go_on, begin_exit, exit_begun, close_begun, to_await, after_source, after_jobs, owes_job, to_jobs, with_need, told_need, serve_on, begin_serving, at_row, taken_serving, next_cause, desk_saved, entered, resumed, work_row, taken_at, left_to, known_bsp, entry_taken, gather_taken, close_taken, exit_taken, report_taken, taken_in, job_to_run}
 use Rattle.cpu_program.specs.Programs.{want_of, given_by_hand, given, received_by_hand, received, taken, taken_at_row, first_processor, first_actor, is_processor}
 use Rattle.cpu_program.proofs.KindLemmas.{set_kind, saved_kind, off_kind, off_len, handed_kind, handed_len, answered_kind, answered_len}
-use Rattle.cpu_program.proofs.WantLemmas.{Moves, moves_give, moves_take, chair_moves, lt_of}
+use Rattle.cpu_program.proofs.WantLemmas.{Moves, moves_give, moves_take, chair_moves, held_moves, lt_of}
 use Rattle.cpu_program.proofs.WaveLemmas.{waves_some}
 
 -- WHAT IS KEPT
@@ -91,7 +91,10 @@ gave : (p : Processor) (k : ℕ) (b : Bool) → (k == p.setup.processors) ≡ b 
     → IsProcessor (if b then record p { chair = None } else desk_left p k)
 gave p k true e h m = record { kept = with_session None h.kept tt; part = chair_moves p.part p k None m (eqb-true k p.setup.processors e) h.part }
 gave p k false e h m =
-    record { kept = with_desks (slice_set p.held k None) h.kept (length-set p.held k None) (set_kind p.setup.kind p.held k None h.kept.kinds tt); part = h.part }
+    record {
+      kept = with_desks (slice_set p.held k None) h.kept (length-set p.held k None) (set_kind p.setup.kind p.held k None h.kept.kinds tt);
+      part = held_moves p.part p k (slice_set p.held k None) m h.part;
+    }
 
 given_by : (p : Processor) (hand : Hand) → hand_of (want_in p.part p) ≡ hand → IsProcessor p → IsProcessor (given_by_hand hand p)
 given_by p Nothing e h = h
@@ -108,16 +111,16 @@ kind_of Intel64 Intel64 h = refl
 kind_of Ia32 Intel64 h = absurd cc
 kind_of Intel64 Ia32 h = absurd cc
 
-got_desk : (p : Processor) (k : ℕ) (desk : Desk) (b : Bool) → is_kind desk.image.kind p.setup.kind ≡ b → IsProcessor p
+got_desk : (p : Processor) (k : ℕ) (desk : Desk) (b : Bool) → is_kind desk.image.kind p.setup.kind ≡ b → IsProcessor p → Moves (hand_of (want_in p.part p)) k
     → IsProcessor (if b then record p { held = slice_set p.held k (Some desk) } else p)
-got_desk p k desk true e h =
+got_desk p k desk true e h m =
     record {
       kept =
           with_desks (slice_set p.held k (Some desk)) h.kept (length-set p.held k (Some desk))
           (set_kind p.setup.kind p.held k (Some desk) h.kept.kinds (kind_of desk.image.kind p.setup.kind e));
-      part = h.part;
+      part = held_moves p.part p k (slice_set p.held k (Some desk)) m h.part;
     }
-got_desk p k desk false e h = h
+got_desk p k desk false e h m = h
 
 got_chair : (p : Processor) (k : ℕ) (s : Session) (b : Bool) → (k == p.setup.processors && s.setup.processors == p.setup.processors) ≡ b → IsProcessor p
     → Moves (hand_of (want_in p.part p)) k → IsProcessor (if b then record p { chair = Some s } else p)
@@ -130,7 +133,7 @@ got_chair p k s true e h m =
 got_chair p k s false e h m = h
 
 got : (p : Processor) (k : ℕ) (cargo : Cargo) → IsProcessor p → Moves (hand_of (want_in p.part p)) k → IsProcessor (after_receiving p k cargo)
-got p k (DeskCargo desk) h m = got_desk p k desk (is_kind desk.image.kind p.setup.kind) refl h
+got p k (DeskCargo desk) h m = got_desk p k desk (is_kind desk.image.kind p.setup.kind) refl h m
 got p k (ChairCargo s) h m = got_chair p k s (k == p.setup.processors && s.setup.processors == p.setup.processors) refl h m
 
 received_by : (p : Processor) (hand : Hand) (cargo : Cargo) → hand_of (want_in p.part p) ≡ hand → IsProcessor p → IsProcessor (received_by_hand hand cargo p)
@@ -201,17 +204,18 @@ jobs_row from p =
     (next_below p.setup.processors (owes_job p.chair) from) (next_is p.setup.processors (owes_job p.chair) from) (λ j h. h.0)
     (jobs_after p.setup.mode p.setup p.visits)
 
-need_stays : (s : Session) (p : Processor) (b : Bool) → is_at_need p.setup.processors (need_as s.told) ≡ b → Keeps p → p.chair ≡ Some s → HasTold s
+need_stays : (s : Session) (p : Processor) (b : Bool) → can_serve p.setup.processors s.told p.held ≡ b → Keeps p → p.chair ≡ Some s → HasTold s
     → IsProcessor (with_need b p)
 need_stays s p true e h is told =
-    record { kept = h; part = subst (λ (c : Option Session). IsServing p.setup.processors c) (sym is) (told, e) }
+    record { kept = h; part = subst (λ (c : Option Session). IsServing p.setup.processors c p.held) (sym is) (told, e) }
 need_stays s p false e h is told = go_on_stays (to_jobs 0 p) p h (jobs_row 0 p)
 
 serve_stays : (s : Session) (p : Processor) → HasProcessors p.setup.processors s → Keeps p → IsProcessor (serve_on s p)
 serve_stays s p same h =
     let t = told_on p.held s in
-    need_stays t (record p { chair = Some t; held = handed_as t.told p.held }) (is_at_need p.setup.processors (need_as t.told)) refl
-    (with_session (Some t) (with_desks (handed_as t.told p.held) h (handed_len t.told p.held) (handed_kind p.setup.kind t.told p.held h.kinds)) same) refl
+    let held = handed_as t.told p.held in
+    need_stays t (record p { chair = Some t; held = held }) (can_serve p.setup.processors t.told held) refl
+    (with_session (Some t) (with_desks held h (handed_len t.told p.held) (handed_kind p.setup.kind t.told p.held h.kinds)) same) refl
     (record { held = p.held; told = refl })
 
 begin_stays : (chair : Option Session) (p : Processor) → IfSome chair (HasProcessors p.setup.processors) → Keeps p → IsProcessor (begin_serving chair p)
@@ -222,7 +226,7 @@ at_row_stays : (r : Row) (p : Processor) → Keeps p → IsNext r p.setup p.visi
 at_row_stays row.Serve p h k = begin_stays p.chair p h.chair h
 at_row_stays r p h k = go_on_stays r p h k
 
-left_stays : (o : Option Row) (p : Processor) → Keeps p → (o ≡ None → IsPart p.part p.setup p.visits p.chair) → IfSome o (λ r. IsNext r p.setup p.visits) → IsProcessor (left_to o p)
+left_stays : (o : Option Row) (p : Processor) → Keeps p → (o ≡ None → IsPart p.part p.setup p.visits p.chair p.held) → IfSome o (λ r. IsNext r p.setup p.visits) → IsProcessor (left_to o p)
 left_stays None p h here next = record { kept = h; part = here refl }
 left_stays (Some r) p h here next = at_row_stays r p h next
 
@@ -311,7 +315,7 @@ work_stays : (p : Processor) (b : Bool) → Keeps p → IsProcessor (between (wo
 work_stays p true h = record { kept = h; part = tt }
 work_stays p false h = record { kept = h; part = tt }
 
-row_stays : (r : Row) (p : Processor) (found : ℕ) → Keeps p → IsRow r p.setup p.visits → IsPart p.part p.setup p.visits p.chair → IsProcessor (taken_at r p found).after
+row_stays : (r : Row) (p : Processor) (found : ℕ) → Keeps p → IsRow r p.setup p.visits → IsPart p.part p.setup p.visits p.chair p.held → IsProcessor (taken_at r p found).after
 row_stays row.AwaitSmi p found h k here = smi_stays p (found == DELIVERABLE) h k
 row_stays row.SwitchOff p found h k here = record { kept = h; part = tt }
 row_stays row.MarkInside p found h k here = record { kept = h; part = tt }
@@ -358,7 +362,7 @@ entry_next d v (row.AwaitInside looks) h = tt
 entry_next d v row.AwaitSessionEnd h = tt
 entry_next d v _ h = absurd h
 
-entry_stays : (e : entry.EntryPosition) (p : Processor) (found : ℕ) → Keeps p → IsPart (Entering e) p.setup p.visits p.chair → IsProcessor (entry_taken (entry.taken e.row e found) p).after
+entry_stays : (e : entry.EntryPosition) (p : Processor) (found : ℕ) → Keeps p → IsPart (Entering e) p.setup p.visits p.chair p.held → IsProcessor (entry_taken (entry.taken e.row e found) p).after
 entry_stays e p found h k =
     let t = entry.taken e.row e found in
     left_stays (entry.left_of t.after.row) (record p { part = Entering t.after }) h
@@ -383,7 +387,7 @@ gather_same _ g found = refl
 gather_next : (d : SetupData) (v : ℕ) (r : Row) → r ≡ row.MarkInsync → IsNext r d v
 gather_next d v r e = subst (λ x. IsNext x d v) (sym e) tt
 
-gather_stays : (g : gather.GatherPosition) (p : Processor) (found : ℕ) → Keeps p → IsPart (Gathering g) p.setup p.visits p.chair → IsProcessor (gather_taken (gather.taken g.row g found) p).after
+gather_stays : (g : gather.GatherPosition) (p : Processor) (found : ℕ) → Keeps p → IsPart (Gathering g) p.setup p.visits p.chair p.held → IsProcessor (gather_taken (gather.taken g.row g found) p).after
 gather_stays g p found h k =
     let t = gather.taken g.row g found in
     left_stays (gather.left_of t.after.row) (record p { part = Gathering t.after }) h
@@ -404,7 +408,7 @@ closed_row d v false = tt
 close_next : (d : SetupData) (v : ℕ) (b : Bool) (r : Row) → r ≡ close.after_close b → IsNext r d v
 close_next d v b r e = subst (λ x. IsNext x d v) (sym e) (closed_row d v b)
 
-close_part : (c : close.ClosePosition) (p : Processor) (found : ℕ) → Keeps p → IsPart (Closing c) p.setup p.visits p.chair → IsProcessor (close_taken (close.taken c.row c found) p).after
+close_part : (c : close.ClosePosition) (p : Processor) (found : ℕ) → Keeps p → IsPart (Closing c) p.setup p.visits p.chair p.held → IsProcessor (close_taken (close.taken c.row c found) p).after
 close_part c p found h k =
     let t = close.taken c.row c found in
     let on = close_stays c found k.0 in
@@ -425,7 +429,7 @@ exit_same _ e found = refl
 exit_next : (d : SetupData) (v : ℕ) (r : Row) → r ≡ row.AwaitSessionEnd → IsNext r d v
 exit_next d v r e = subst (λ x. IsNext x d v) (sym e) tt
 
-exit_part : (e : exit.ExitPosition) (p : Processor) (found : ℕ) → Keeps p → IsPart (Exiting e) p.setup p.visits p.chair → IsProcessor (exit_taken (exit.taken e.row e found) p).after
+exit_part : (e : exit.ExitPosition) (p : Processor) (found : ℕ) → Keeps p → IsPart (Exiting e) p.setup p.visits p.chair p.held → IsProcessor (exit_taken (exit.taken e.row e found) p).after
 exit_part e p found h k =
     let t = exit.taken e.row e found in
     let on = exit_stays e found k.0 in
@@ -464,7 +468,7 @@ known_below row.AwaitRelease bsp n h = h
 known_below _ bsp n h = tt
 
 known_stays : (o : Option ℕ) (left : Option Row) (p : Processor) → Keeps p → IfSome o (λ b. b < p.setup.processors)
-    → (left ≡ None → IsPart p.part p.setup p.visits p.chair) → IfSome left (λ r. IsNext r p.setup p.visits) → IsProcessor (left_to left (known_bsp o p))
+    → (left ≡ None → IsPart p.part p.setup p.visits p.chair p.held) → IfSome left (λ r. IsNext r p.setup p.visits) → IsProcessor (left_to left (known_bsp o p))
 known_stays None left p h below here next = left_stays left p h here next
 known_stays (Some b) left p h below here next =
     left_stays left (record p { bsp = b })
@@ -480,7 +484,7 @@ known_stays (Some b) left p h below here next =
       chair = h.chair;
     }) here next
 
-report_part : (q : report.ReportPosition) (p : Processor) (answer : Applied) → Keeps p → IsPart (Reporting q) p.setup p.visits p.chair → Accepts (report.want_of q.row q) answer
+report_part : (q : report.ReportPosition) (p : Processor) (answer : Applied) → Keeps p → IsPart (Reporting q) p.setup p.visits p.chair p.held → Accepts (report.want_of q.row q) answer
     → IsProcessor (report_taken (report.taken q.row q (found_of answer)) p).after
 report_part q p answer h k accepted =
     let t = report.taken q.row q (found_of answer) in
@@ -492,14 +496,14 @@ report_part q p answer h k accepted =
     (λ here. (on, record { same = same; here = here }))
     (weaken (report.left_of t.after.row) IsAfterReport (λ r. IsNext r p.setup p.visits) (report_next p.setup p.visits) (report_leaves_to q.row q (found_of answer) k.1.here))
 
-serving_part : (chair : Option Session) (p : Processor) (found : ℕ) → Keeps p → IfSome chair (HasProcessors p.setup.processors) → IsServing p.setup.processors chair
+serving_part : (chair : Option Session) (p : Processor) (found : ℕ) → Keeps p → IfSome chair (HasProcessors p.setup.processors) → IsServing p.setup.processors chair p.held
     → IsProcessor (taken_serving chair p found).after
 serving_part None p found h same k = absurd k
 serving_part (Some s) p found h same k =
     serve_stays (answered (move_as s found p.held) p.held s) (record p { held = kept_as s.told found p.held }) same
     (with_desks (kept_as s.told found p.held) h (answered_len s.told found p.held) (answered_kind p.setup.kind s.told found p.held h.kinds))
 
-part_stays : (part : Part) (p : Processor) (answer : Applied) → Keeps p → IsPart p.part p.setup p.visits p.chair → IsPart part p.setup p.visits p.chair
+part_stays : (part : Part) (p : Processor) (answer : Applied) → Keeps p → IsPart p.part p.setup p.visits p.chair p.held → IsPart part p.setup p.visits p.chair p.held
     → Accepts (want_in part p) answer → IsProcessor (taken_in part p (found_of answer)).after
 part_stays (Between r) p answer h here k accepted = row_stays r p (found_of answer) h k here
 part_stays (Entering e) p answer h here k accepted = entry_stays e p (found_of answer) h k

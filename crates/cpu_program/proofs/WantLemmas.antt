@@ -1,6 +1,6 @@
 -- What a program wants is within bounds, and stays while things change hands.
 use Rattle.std.proofs.Common.{◌≡◌, ◌<◌, ◌≤◌, ◌+◌, ℕ, zero, suc, ◌==◌, ◌&&◌, Bool, true, false, length, Option, Some, None, refl, subst, sym, arith}
-use Rattle.std.proofs.lemmas.Bool.{and_parts, eqb-true}
+use Rattle.std.proofs.lemmas.Bool.{and_from, and_parts, eqb-true}
 use Rattle.std.specs.Prelude.{nat_lt, slice_index_or, slice_set, if◌then◌else◌}
 use Rattle.std.specs.List.{count_by}
 use Rattle.cpu_table.specs.declared.waves.Arrival.{Arrival}
@@ -26,12 +26,15 @@ use Rattle.handler_ops.specs.declared.desk.Job.{Job}
 use Rattle.handler_ops.specs.declared.need.Need.{Need}
 use Rattle.handler_ops.specs.declared.need.Need.TheVariants as need
 use Rattle.handler_ops.specs.Course.{Desks}
+use Rattle.handler_ops.specs.declared.row.Row.{Row as ServerRow}
+use Rattle.handler_ops.specs.declared.row.Row.TheVariants as served
+use Rattle.handler_ops.specs.Answering.{is_at_hand, IsAtHand}
 use Rattle.handler_ops.specs.Sessions.{Session}
 use Rattle.handler_ops.specs.Told.{need_as}
 use Rattle.cpu_program.specs.Actors.{Processor, Chipset, Actor, OfProcessor, OfChipset, Cargo, Part, Between, Entering, Gathering, Closing, Serving, Exiting, Reporting, Off}
 use Rattle.cpu_program.specs.Bounds.{GoesOn, IsRow, IsServing, IsPart, IsPlatform, IsProcessor, IsChipsetRow, IsChipset, IsActor}
 use Rattle.cpu_program.specs.Chipsets as chipset
-use Rattle.cpu_program.specs.Processors.{want_at, want_for, want_of_session, want_in, is_at_need}
+use Rattle.cpu_program.specs.Processors.{want_at, want_for, want_of_session, want_in, is_at_need, can_serve}
 use Rattle.cpu_program.specs.declared.cargo.Cargo.TheVariants.{Desk as DeskCargo, Chair as ChairCargo}
 use Rattle.cpu_program.specs.Hands.{is_kind, is_giving_back, ran_after, desk_left, after_receiving}
 use Rattle.cpu_program.specs.Programs.{want_of, want_at_row, processors_of, given_by_hand, given, received_by_hand, received}
@@ -68,17 +71,20 @@ need_within n (need.PutBusy c) h = (lt_of c n h, omega arith)
 need_within n (need.RaiseRun c) h = (lt_of c n h, tt)
 need_within n need.Finished h = tt
 
-session_within : (n : ℕ) (chair : Option Session) → IsServing n chair → IsWantWithin n (want_of_session chair)
-session_within n None h = absurd h
-session_within n (Some s) h = need_within n (need_as s.told) h.1
+pub at_need : (n : ℕ) (told : ServerRow) (held : Desks) → can_serve n told held ≡ true → is_at_need n (need_as told) ≡ true
+at_need n told held h = (and_parts (is_at_need n (need_as told)) (is_at_hand told held) h).0
 
-part_within : (part : Part) (p : Processor) → p.me < p.setup.processors → p.bsp < p.setup.processors → IsPart part p.setup p.visits p.chair
+session_within : (n : ℕ) (chair : Option Session) (held : Desks) → IsServing n chair held → IsWantWithin n (want_of_session chair)
+session_within n None held h = absurd h
+session_within n (Some s) held h = need_within n (need_as s.told) (at_need n s.told held h.1)
+
+part_within : (part : Part) (p : Processor) → p.me < p.setup.processors → p.bsp < p.setup.processors → IsPart part p.setup p.visits p.chair p.held
     → IsWantWithin p.setup.processors (want_in part p)
 part_within (Between r) p own there h = row_within r p.me p.bsp p.visits p.setup own there h
 part_within (Entering e) p own there h = subst (λ n. IsWantWithin n (entry.want_of e.row e)) h.1.same (entry_bounds.wants_within e h.0)
 part_within (Gathering g) p own there h = subst (λ n. IsWantWithin n (gather.want_of g.row g)) h.1.same (gather_bounds.wants_within g h.0)
 part_within (Closing c) p own there h = subst (λ n. IsWantWithin n (close.want_of c.row c)) h.1.same (close_within c h.0)
-part_within Serving p own there h = session_within p.setup.processors p.chair h
+part_within Serving p own there h = session_within p.setup.processors p.chair p.held h
 part_within (Exiting e) p own there h = subst (λ n. IsWantWithin n (exit.want_of e.row e)) h.1.same (exit_within e h.0)
 part_within (Reporting r) p own there h = subst (λ n. IsWantWithin n (report.want_of r.row r)) h.1.same (report_bounds.wants_within r h.0)
 part_within Off p own there h = tt
@@ -121,30 +127,53 @@ need_moves n k (need.PutBusy c) h m = absurd m
 need_moves n k (need.RaiseRun c) h m = omega (arith, lt_of c n h, m)
 need_moves n k need.Finished h m = absurd m
 
-session_moves : (n k : ℕ) (chair : Option Session) → IsServing n chair → Moves (hand_of (want_of_session chair)) k → k < n
-session_moves n k None h m = absurd h
-session_moves n k (Some s) h m = need_moves n k (need_as s.told) h.1 m
+session_moves : (n k : ℕ) (chair : Option Session) (held : Desks) → IsServing n chair held → Moves (hand_of (want_of_session chair)) k → k < n
+session_moves n k None held h m = absurd h
+session_moves n k (Some s) held h m = need_moves n k (need_as s.told) (at_need n s.told held h.1) m
+
+-- where a desk moves no register is looked at
+moves_no_register : (told : ServerRow) (k : ℕ) (held : Desks) → Moves (hand_of (want_for (need_as told))) k → is_at_hand told held ≡ true
+moves_no_register (served.Reading c reg width) k held m = absurd m
+moves_no_register (served.Writing c reg width x) k held m = absurd m
+moves_no_register _ k held m = refl
+
+session_held : (n k : ℕ) (chair : Option Session) (held to : Desks) → IsServing n chair held → Moves (hand_of (want_of_session chair)) k → IsServing n chair to
+session_held n k None held to h m = absurd h
+session_held n k (Some s) held to h m =
+    (h.0, and_from (is_at_need n (need_as s.told)) (is_at_hand s.told to) (at_need n s.told held h.1) (moves_no_register s.told k to m))
+
+-- where a desk moves the part stays within bounds
+pub held_moves : (part : Part) (p : Processor) (k : ℕ) (to : Desks) → Moves (hand_of (want_in part p)) k → IsPart part p.setup p.visits p.chair p.held
+    → IsPart part p.setup p.visits p.chair to
+held_moves (Between r) p k to m h = h
+held_moves (Entering x) p k to m h = h
+held_moves (Gathering x) p k to m h = h
+held_moves (Closing x) p k to m h = h
+held_moves Serving p k to m h = session_held p.setup.processors k p.chair p.held to h m
+held_moves (Exiting x) p k to m h = h
+held_moves (Reporting x) p k to m h = h
+held_moves Off p k to m h = h
 
 -- where the chair moves the part has nothing to do with it
 pub chair_moves : (part : Part) (p : Processor) (k : ℕ) (to : Option Session) → Moves (hand_of (want_in part p)) k → k ≡ p.setup.processors
-    → IsPart part p.setup p.visits p.chair → IsPart part p.setup p.visits to
+    → IsPart part p.setup p.visits p.chair p.held → IsPart part p.setup p.visits to p.held
 chair_moves (Between r) p k to m e h = h
 chair_moves (Entering x) p k to m e h = h
 chair_moves (Gathering x) p k to m e h = h
 chair_moves (Closing x) p k to m e h = h
-chair_moves Serving p k to m e h = absurd (omega (arith, e, session_moves p.setup.processors k p.chair h m))
+chair_moves Serving p k to m e h = absurd (omega (arith, e, session_moves p.setup.processors k p.chair p.held h m))
 chair_moves (Exiting x) p k to m e h = h
 chair_moves (Reporting x) p k to m e h = h
 chair_moves Off p k to m e h = h
 
 -- a part that isn't serving, or a chair that stays, wants the same
 with_chair : (part : Part) (p : Processor) (k : ℕ) (to : Option Session) → Moves (hand_of (want_in part p)) k → k ≡ p.setup.processors
-    → IsPart part p.setup p.visits p.chair → want_in part (record p { chair = to }) ≡ want_in part p
+    → IsPart part p.setup p.visits p.chair p.held → want_in part (record p { chair = to }) ≡ want_in part p
 with_chair (Between r) p k to m e h = refl
 with_chair (Entering x) p k to m e h = refl
 with_chair (Gathering x) p k to m e h = refl
 with_chair (Closing x) p k to m e h = refl
-with_chair Serving p k to m e h = absurd (omega (arith, e, session_moves p.setup.processors k p.chair h m))
+with_chair Serving p k to m e h = absurd (omega (arith, e, session_moves p.setup.processors k p.chair p.held h m))
 with_chair (Exiting x) p k to m e h = refl
 with_chair (Reporting x) p k to m e h = refl
 with_chair Off p k to m e h = refl
@@ -205,3 +234,14 @@ received_by p (Take k) cargo e h = got p k cargo h (moves_take (hand_of (want_in
 pub receiving_keeps : (a : Actor) (cargo : Cargo) → IsActor a → want_of (received cargo a) ≡ want_of a
 receiving_keeps (OfProcessor p) cargo h = received_by p (hand_of (want_in p.part p)) cargo refl h
 receiving_keeps (OfChipset c) cargo h = refl
+
+-- the desk whose register a session looks at is held
+row_at_hand : (told : ServerRow) (held : Desks) → is_at_hand told held ≡ true → IsAtHand told held
+row_at_hand (served.Reading c reg width) held h = h
+row_at_hand (served.Writing c reg width x) held h = h
+row_at_hand _ held h = tt
+
+pub serving_at_hand : (n : ℕ) (chair : Option Session) (s : Session) (held : Desks) → chair ≡ Some s → IsServing n chair held → IsAtHand s.told held
+serving_at_hand n chair s held is h =
+    let there : IsServing n (Some s) held = subst (λ (c : Option Session). IsServing n c held) is h in
+    row_at_hand s.told held (and_parts (is_at_need n (need_as s.told)) (is_at_hand s.told held) there.1).1

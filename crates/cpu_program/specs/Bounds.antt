@@ -15,11 +15,10 @@ use Rattle.cpu_table.specs.Data.{SetupData}
 use Rattle.handler_ops.specs.declared.desk.Desk.{Desk}
 use Rattle.handler_ops.specs.Course.{Desks, desk_of}
 use Rattle.handler_ops.specs.Sessions.{Session}
-use Rattle.handler_ops.specs.Told.{need_as}
 use Rattle.handler_ops.specs.Answering.{HasTold}
 use Rattle.cpu_program.specs.declared.processor.Processor.{Processor as ProcessorFields}
 use Rattle.cpu_program.specs.Actors.{Processor, Chipset, Actor, OfProcessor, OfChipset, Part, Between, Entering, Gathering, Closing, Serving, Exiting, Reporting, Off}
-use Rattle.cpu_program.specs.Processors.{is_at_need}
+use Rattle.cpu_program.specs.Processors.{can_serve}
 
 -- a part of the platform's processors that goes on
 pub record GoesOn (processors n : ℕ) (left : Option Row) : Type 0 where
@@ -44,20 +43,20 @@ IsRow row.AwaitSessionEnd d visits = Unit {0}
 IsRow row.ClearSignal d visits = Unit {0}
 IsRow _ d visits = ⊥
 
--- the session is there, and has told a need, which names a processor of the platform
-abbrev pub IsServing : ℕ → Option Session → Type 0
-IsServing processors None = ⊥
-IsServing processors (Some s) = HasTold s × (is_at_need processors (need_as s.told) ≡ true)
+-- the session is there, and has told a need, which names a processor of the platform and a desk that is held
+abbrev pub IsServing : ℕ → Option Session → Desks → Type 0
+IsServing processors None held = ⊥
+IsServing processors (Some s) held = HasTold s × (can_serve processors s.told held ≡ true)
 
-abbrev pub IsPart : Part → SetupData → ℕ → Option Session → Type 0
-IsPart (Between r) d visits chair = IsRow r d visits
-IsPart (Entering e) d visits chair = entry.IsEntry e × GoesOn d.processors e.processors (entry.left_of e.row)
-IsPart (Gathering g) d visits chair = gather.IsGather g × GoesOn d.processors g.processors (gather.left_of g.row)
-IsPart (Closing c) d visits chair = close.IsClose c × GoesOn d.processors c.processors (close.left_of c.row)
-IsPart Serving d visits chair = IsServing d.processors chair
-IsPart (Exiting e) d visits chair = exit.IsExit e × GoesOn d.processors e.processors (exit.left_of e.row)
-IsPart (Reporting r) d visits chair = report.IsReport r × GoesOn d.processors r.processors (report.left_of r.row)
-IsPart Off d visits chair = Unit {0}
+abbrev pub IsPart : Part → SetupData → ℕ → Option Session → Desks → Type 0
+IsPart (Between r) d visits chair held = IsRow r d visits
+IsPart (Entering e) d visits chair held = entry.IsEntry e × GoesOn d.processors e.processors (entry.left_of e.row)
+IsPart (Gathering g) d visits chair held = gather.IsGather g × GoesOn d.processors g.processors (gather.left_of g.row)
+IsPart (Closing c) d visits chair held = close.IsClose c × GoesOn d.processors c.processors (close.left_of c.row)
+IsPart Serving d visits chair held = IsServing d.processors chair held
+IsPart (Exiting e) d visits chair held = exit.IsExit e × GoesOn d.processors e.processors (exit.left_of e.row)
+IsPart (Reporting r) d visits chair held = report.IsReport r × GoesOn d.processors r.processors (report.left_of r.row)
+IsPart Off d visits chair held = Unit {0}
 
 -- the ranges of a platform that its processors rest on
 pub record IsPlatform (d : SetupData) : Type 0 where
@@ -95,7 +94,7 @@ Keeps p = IsKept p.setup p.me p.bsp p.visits p.held p.registers p.last p.chair
 
 pub record IsProcessor (p : Processor) : Type 0 where
   pub kept : Keeps p
-  pub part : IsPart p.part p.setup p.visits p.chair
+  pub part : IsPart p.part p.setup p.visits p.chair p.held
 
 -- the fields that going on rests on
 pub record IsReady (p : ProcessorFields) : Type 0 where

@@ -33,11 +33,12 @@ use Rattle.handler_ops.specs.declared.desk.Desk.{Desk}
 use Rattle.handler_ops.specs.declared.desk.Job.{Job}
 use Rattle.handler_ops.specs.declared.need.Need.{Need}
 use Rattle.handler_ops.specs.declared.need.Need.TheVariants as need
+use Rattle.handler_ops.specs.declared.row.Row.{Row as ServerRow}
 use Rattle.handler_ops.specs.Serving.{seat}
 use Rattle.handler_ops.specs.Course.{is_held, desk_of, label_of, has_job}
 use Rattle.handler_ops.specs.Sessions.{Session, begun_session}
 use Rattle.handler_ops.specs.Told.{need_as, handed_as}
-use Rattle.handler_ops.specs.Answering.{taken_off, move_as, kept_as, told_on, answered}
+use Rattle.handler_ops.specs.Answering.{is_at_hand, taken_off, move_as, kept_as, told_on, answered}
 use Rattle.cpu_program.specs.Actors.{Processor, Part, Between, Entering, Gathering, Closing, Serving, Exiting, Reporting, Off}
 
 -- WHAT A PROCESSOR HAS
@@ -143,6 +144,10 @@ is_at_need processors (need.PutBusy c) = nat_lt c processors
 is_at_need processors (need.RaiseRun c) = nat_lt c processors
 is_at_need processors need.Finished = false
 
+-- and the desk whose register it is for is held
+abbrev pub can_serve : ℕ → ServerRow → List (Option Desk) → Bool
+can_serve processors told held = is_at_need processors (need_as told) && is_at_hand told held
+
 -- Serving goes on where the session has a need. Where nothing is left to serve, the jobs are collected.
 abbrev pub with_need : Bool → Processor → Processor
 with_need true p = record p { part = Serving }
@@ -150,7 +155,7 @@ with_need false p = go_on (to_jobs 0 p) p
 
 -- the session tells its next need, and the desk that it raises has its job then
 abbrev pub told_need : Session → Processor → Processor
-told_need s p = with_need (is_at_need p.setup.processors (need_as s.told)) (record p { chair = Some s; held = handed_as s.told p.held })
+told_need s p = with_need (can_serve p.setup.processors s.told (handed_as s.told p.held)) (record p { chair = Some s; held = handed_as s.told p.held })
 
 abbrev pub serve_on : Session → Processor → Processor
 serve_on s p = told_need (told_on p.held s) p

@@ -91,7 +91,7 @@ impl Processor {
         (from..self.setup.processors).find(|cpu| owes_job(&self.chair, *cpu))
     }
 
-    /// Serving goes on where there is a need; else the jobs are collected.
+    /// Serving goes on where there is a need to be met; else the jobs are collected.
     fn go_on_serving(&mut self, has_need: bool)
         requires { IsReady self.old }
         ensures { processor_in self.new ≡ with_need has_need (processor_in self.old) }
@@ -110,7 +110,8 @@ impl Processor {
     {
         if let Some(server) = &mut self.chair {
             let need = server.next(&mut self.held);
-            self.go_on_serving(is_at_need(self.setup.processors, need));
+            let at_hand = server.is_at_hand(&self.held.desks);
+            self.go_on_serving(is_at_need(self.setup.processors, need) && at_hand);
         }
     }
 
@@ -130,7 +131,7 @@ impl Processor {
     /// The session is told what its access found, and tells its next need.
     pub fn take_serving(&mut self, found: u32) -> Label
         requires ready { IsReady self.old }
-        requires told { IsServing self.old.setup.processors self.old.chair }
+        requires told { IsServing self.old.setup.processors self.old.chair self.old.held.desks }
         ensures label { result ≡ (taken_serving self.old.chair (processor_in self.old) found).label }
         ensures after { processor_in self.new ≡ (taken_serving self.old.chair (processor_in self.old) found).after }
     {

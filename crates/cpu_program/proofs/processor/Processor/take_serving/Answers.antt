@@ -4,6 +4,7 @@ use Rattle.handler_ops.specs.Course.{Desks}
 use Rattle.handler_ops.specs.Sessions.{Session}
 use Rattle.cpu_program.specs.Bounds.{HasProcessors}
 use Rattle.cpu_program.proofs.KindLemmas.{answered_len}
+use Rattle.cpu_program.proofs.WantLemmas.{serving_at_hand}
 use Rattle.cpu_program.proofs.processor.Processor.take_serving.Goals as goal
 
 pub serve_on-requires : goal.serve_on-requires
@@ -20,3 +21,6 @@ serve_on-requires c =
 
 pub answer-label-requires-clause-stand_in : goal.answer-label-requires-clause-stand_in
 answer-label-requires-clause-stand_in c = ?
+
+pub answer-label-requires-clause-at_hand : goal.answer-label-requires-clause-at_hand
+answer-label-requires-clause-at_hand c = serving_at_hand c.args.self.now.setup.processors c.args.self.now.chair c.in-Some.server c.args.self.now.held.desks c.in-Some.is c.requires.told
