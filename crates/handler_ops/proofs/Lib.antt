@@ -12,3 +12,5 @@ pub mod Lists
 pub mod Turns
 pub mod Dues
 pub mod RowSteps
+pub mod Changes
+pub mod Room

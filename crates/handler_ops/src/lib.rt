@@ -10,6 +10,7 @@ mod procedure;
 mod progress;
 mod reach;
 mod row;
+mod saying;
 mod seat;
 mod server;
 mod state;
