@@ -14,3 +14,5 @@ pub mod Dues
 pub mod RowSteps
 pub mod Changes
 pub mod Room
+pub mod Stack
+pub mod Turned

@@ -14,3 +14,5 @@ pub mod NextRow
 pub mod Answering
 pub mod Bounds
 pub mod Sayings
+pub mod Calling
+pub mod Moves

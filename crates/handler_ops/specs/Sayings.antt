@@ -22,11 +22,6 @@ label_in pool (Known l) = l
 label_in pool (Allocation size) = alloc_label size (allocated size pool).0
 label_in pool (Release place) = say.Free place (free_status (freed place pool).0)
 
--- no call of the pool
-abbrev pub IsKnown : Saying → Type 0
-IsKnown (Known l) = Unit {0}
-IsKnown _ = ⊥
-
 -- the operation that is due
 abbrev pub operation_due : Due → Option OpDef
 operation_due (Doing n o) = Some o
@@ -78,3 +73,8 @@ RowFits (row.Raising c l) o s = Fits (Known l) o s
 RowFits (row.Allocating n) o s = Fits (Allocation n) o s
 RowFits (row.Freeing n) o s = Fits (Release n) o s
 RowFits _ o s = Unit {0}
+
+-- the label where no call of the pool is said
+abbrev pub known_label : Saying → Label
+known_label (Known l) = l
+known_label _ = say.Silent

@@ -5,6 +5,7 @@
 mod desk;
 mod held;
 mod laws;
+mod moving;
 mod need;
 mod procedure;
 mod progress;

@@ -4,9 +4,10 @@ ghost use Rattle.handler_registry.specs.Registrations.{is_full, is_live, unregis
 ghost use Rattle.smram_pool.specs.State.{allocated, freed};
 ghost use Rattle.sync_words.specs.declared.label.Label.TheVariants as say;
 ghost use Rattle.handler_ops.specs.Serving.{Free, number, put, put_on, seat, given_to, run_at, ran, collected, returned, token_of, with_token, owes_token, owner, dropped};
-ghost use Rattle.handler_ops.specs.Operations.{after, register_on, drop_on, pool_status, free_status};
+ghost use Rattle.handler_ops.specs.Operations.{register_on, drop_on, pool_status, free_status};
 ghost use Rattle.handler_ops.specs.Course.{has_token, tokens_out, alloc_label};
 ghost use Rattle.handler_ops.specs.Sayings.{Known, Fits, IsAlloc, IsFreeing, RegisterFits, label_in};
+ghost use Rattle.handler_ops.specs.Moves.{operated};
 ghost use Rattle.handler_ops.specs.Sessions.{cleared};
 
 use crate::saying::Saying;
@@ -240,11 +241,12 @@ impl State {
 }
 
 impl State {
-    /// An operation says its own label. A call of the pool is made, and the label is then what the pool answers.
+    /// An operation says its own label, or the collect of a job before it. A call of the pool is made, and the label is then
+    /// what the pool answers.
     pub fn operate(&mut self, op: &OpDef, saying: Saying) -> Label
         requires { Fits saying (Some op.now) self.old }
         ensures label { result ≡ label_in self.old.pool saying }
-        ensures after { self.new ≡ after op.now self.old (label_in self.old.pool saying) }
+        ensures after { self.new ≡ operated op.now self.old (label_in self.old.pool saying) }
     {
         match saying {
             Saying::Known(label) => {
@@ -260,9 +262,10 @@ impl State {
     #[tactic(auto, using(crate::proofs::Changes::after_write, crate::proofs::Changes::after_said_write))]
     fn apply(&mut self, op: &OpDef, label: Label)
         requires { Fits (Known label) (Some op.now) self.old }
-        ensures { self.new ≡ after op.now self.old label }
+        ensures { self.new ≡ operated op.now self.old label }
     {
         match (op, label) {
+            (_, Label::Collect(cpu)) => self.collect(cpu),
             (OpDef::Set { into, .. }, Label::Set { value, .. }) => self.put(*into, value),
             (OpDef::Read { into, .. }, Label::Read { value, status, .. }) => {
                 self.put_on(status, *into, value);
@@ -311,7 +314,7 @@ impl State {
     fn allocate(&mut self, op: &OpDef, size: u64) -> Label
         requires { IsAlloc op.now }
         ensures label { result ≡ alloc_label size (allocated size self.old.pool).0 }
-        ensures after { self.new ≡ after op.now self.old (alloc_label size (allocated size self.old.pool).0) }
+        ensures after { self.new ≡ operated op.now self.old (alloc_label size (allocated size self.old.pool).0) }
     {
         match self.pool.alloc(size) {
             Ok(place) => {
@@ -335,7 +338,7 @@ impl State {
     fn release(&mut self, op: &OpDef, place: u64) -> Label
         requires { IsFreeing op.now }
         ensures label { result ≡ say.Free place (free_status (freed place self.old.pool).0) }
-        ensures after { self.new ≡ after op.now self.old (say.Free place (free_status (freed place self.old.pool).0)) }
+        ensures after { self.new ≡ operated op.now self.old (say.Free place (free_status (freed place self.old.pool).0)) }
     {
         let _ = op;
         let status = match self.pool.free(place) {

@@ -1,0 +1,202 @@
+ghost use Rattle.std.specs.Prelude.{◌≡◌, ◌<◌, ◌≤◌, ◌-◌, IfSome, IsSomeAnd, MatchOption, Some, ◌∷◌, [], length, take, slice_get, option_copied, vec_capacity};
+ghost use Rattle.handler_ops.specs.declared.progress.Pending.TheVariants as pending;
+ghost use Rattle.handler_ops.specs.Forms.{Own, status_of, operations_of, operations_in};
+ghost use Rattle.handler_ops.specs.Places.{levels_left, ended, place_at, at_left, with_walk, with_return, after_turn, after_in_call, after_in_walks, after_doing, next};
+ghost use Rattle.handler_ops.specs.Course.{due, due_in_call, due_in_walks};
+ghost use Rattle.handler_ops.specs.Progresses.{program_in, place_in, walk_of, walks_in, call_of, turns_of};
+ghost use Rattle.handler_ops.specs.Sayings.{Fits, label_in, known_label, operation_due};
+ghost use Rattle.handler_ops.specs.Moves.{pending_by, awaited_by, manage_kind, entered};
+
+use crate::progress::{Called, Pending, Progress, Walk};
+use crate::saying::Saying;
+use cpu_table::{HandlerDef, OpDef};
+use smi_manage::Manage;
+use smm_base::HandlerType;
+use sync_words::Label;
+
+fn known(saying: Saying) -> Label
+    ensures { result ≡ known_label saying }
+{
+    match saying {
+        Saying::Known(label) => label,
+        Saying::Allocation(_) => Label::Silent,
+        Saying::Release(_) => Label::Silent,
+    }
+}
+
+fn manage_kind(op: &OpDef) -> Option<HandlerType>
+    ensures { result ≡ manage_kind op.now }
+{
+    match op {
+        OpDef::Manage { kind } => Some(*kind),
+        _ => None,
+    }
+}
+
+fn awaited_by(op: &OpDef) -> Pending
+    ensures { result ≡ awaited_by op.now }
+{
+    match op {
+        OpDef::Start { cpu, into, .. } => Pending::Awaited {
+            cpu: *cpu,
+            into: *into,
+        },
+        _ => Pending::Nothing,
+    }
+}
+
+// What is to be said after the label of an operation.
+fn pending_by(called: Called, op: &OpDef, label: Label) -> Pending
+    ensures { result ≡ pending_by called op.now label }
+{
+    match label {
+        Label::Collect(_) => Pending::Started(called),
+        Label::Start { .. } => awaited_by(op),
+        _ => Pending::Nothing,
+    }
+}
+
+fn operation_of(handlers: &[HandlerDef], called: Called) -> Option<&OpDef>
+    ensures { option_copied result ≡ slice_get (operations_in (slice_get handlers.now called.handler)) called.at }
+{
+    match handlers.get(usize::from(called.handler)) {
+        Some(handler) => handler.ops.as_slice().get(called.at),
+        None => None,
+    }
+}
+
+impl Progress {
+    /// Nothing is left to say.
+    fn end(&mut self)
+        ensures place { place_in self.new ≡ ended self.old.state }
+        ensures stays { self.new ≡ record self.old { entry = self.new.entry; walks = self.new.walks; pending = self.new.pending } }
+        ensures room { vec_capacity self.new.walks ≡ vec_capacity self.old.walks }
+    {
+        self.entry = self.kinds().len();
+        self.walks.clear();
+        self.pending = Pending::Nothing;
+    }
+
+    /// The walk that was opened last is replaced.
+    #[tactic(auto, using(crate::proofs::Stack::top_set))]
+    fn set_top(&mut self, walk: Walk)
+        requires { 0 < length self.old.walks.items }
+        ensures walks { walks_in (program_in self.old) self.new.walks.items
+            ≡ walk_of (program_in self.old) walk ∷ walks_in (program_in self.old) (take (length self.old.walks.items - 1) self.old.walks.items) }
+        ensures stays { self.new ≡ record self.old { walks = self.new.walks } }
+        ensures room { vec_capacity self.new.walks ≡ vec_capacity self.old.walks }
+    {
+        let last = self.walks.len() - 1;
+        self.walks[last] = walk;
+    }
+
+    /// A walk is opened, where a level is left for it.
+    #[tactic(auto, using(crate::proofs::Stack::push_walk, crate::proofs::Stack::with_walk_some, crate::proofs::Stack::with_walk_none))]
+    fn open_walk(&mut self, kind: HandlerType)
+        requires begun { self.old.pending ≡ pending.Nothing }
+        requires room { 4 ≤ vec_capacity self.old.walks }
+        ensures place { place_in self.new ≡ with_walk (levels_left (place_in self.old).walks) (place_in self.old).kinds (place_in self.old).walks kind self.old.state }
+        ensures stays { self.new ≡ record self.old { walks = self.new.walks } }
+        ensures room { vec_capacity self.new.walks ≡ vec_capacity self.old.walks }
+    {
+        if self.levels() > 0 {
+            self.walks.push_reserved(Walk {
+                manage: Manage::begin(kind, self.state.registrations()),
+                called: None,
+            });
+        }
+    }
+
+    /// The next walk of the wave begins in a unit of its own, where there is one and a unit is left.
+    #[tactic(auto, using(crate::proofs::Stack::at_left_none, crate::proofs::Stack::at_left_some))]
+    fn next_entry(&mut self)
+        requires begun { self.old.pending ≡ pending.Nothing }
+        requires none { (place_in self.old).walks ≡ [] }
+        requires room { 4 ≤ vec_capacity self.old.walks }
+        ensures place { place_in self.new ≡ entered (place_in self.old).kinds self.old.state }
+        ensures stays { self.new ≡ record self.old { entry = self.new.entry; walks = self.new.walks; pending = self.new.pending; state = self.new.state } }
+        ensures room { vec_capacity self.new.walks ≡ vec_capacity self.old.walks }
+    {
+        match self.next_kind() {
+            None => {}
+            Some(kind) => {
+                if self.state.left() == 0 {
+                    self.end();
+                } else {
+                    self.state.begin_unit();
+                    self.entry += 1;
+                    self.open_walk(kind);
+                }
+            }
+        }
+    }
+
+    /// The walk with its next turn begun. None where its turns are over.
+    #[tactic(auto, using(crate::proofs::Turned::turned_none, crate::proofs::Turned::turned_lost, crate::proofs::Turned::turned_some))]
+    fn turn(&self, walk: Walk) -> Option<Walk>
+        ensures { MatchOption result
+            (after_turn (program_in self.now) (place_in self.now).kinds (walks_in (program_in self.now) (take (length self.now.walks.items - 1) self.now.walks.items))
+            walk.manage.kind (turns_of walk.manage) walk.manage.running self.now.state
+            ≡ place_at (place_in self.now).kinds (walks_in (program_in self.now) (take (length self.now.walks.items - 1) self.now.walks.items)) self.now.state)
+            (λ w. after_turn (program_in self.now) (place_in self.now).kinds (walks_in (program_in self.now) (take (length self.now.walks.items - 1) self.now.walks.items))
+            walk.manage.kind (turns_of walk.manage) walk.manage.running self.now.state
+            ≡ at_left self.now.state.left (ended self.now.state)
+            (λ m. place_at (place_in self.now).kinds (walk_of (program_in self.now) w ∷ walks_in (program_in self.now) (take (length self.now.walks.items - 1) self.now.walks.items)) (record self.now.state { left = m }))) }
+    {
+        let _ = self.state.registrations().last();
+        let mut manage = walk.manage;
+        match manage.next(self.state.registrations()) {
+            None => None,
+            Some(serial) => match self.state.registrations().handler_of(serial) {
+                None => None,
+                Some(handler) => Some(Walk {
+                    manage,
+                    called: Some(Called { handler, at: 0 }),
+                }),
+            },
+        }
+    }
+
+    /// The walk goes on to its next turn, in a unit of its own, or ends.
+    #[tactic(auto, using(crate::proofs::Stack::at_left_none, crate::proofs::Stack::at_left_some))]
+    fn next_turn(&mut self, walk: Walk)
+        requires begun { self.old.pending ≡ pending.Nothing }
+        requires some { 0 < length self.old.walks.items }
+        ensures place { place_in self.new ≡ after_turn (program_in self.old) (place_in self.old).kinds (walks_in (program_in self.old) (take (length self.old.walks.items - 1) self.old.walks.items))
+            walk.manage.kind (turns_of walk.manage) walk.manage.running self.old.state }
+        ensures stays { self.new ≡ record self.old { entry = self.new.entry; walks = self.new.walks; pending = self.new.pending; state = self.new.state } }
+        ensures room { vec_capacity self.new.walks ≡ vec_capacity self.old.walks }
+    {
+        match self.turn(walk) {
+            None => self.walks.truncate(self.walks.len() - 1),
+            Some(next) => {
+                if self.state.left() == 0 {
+                    self.end();
+                } else {
+                    self.state.begin_unit();
+                    self.set_top(next);
+                }
+            }
+        }
+    }
+
+    /// The handler that is being called returns its status.
+    #[tactic(auto, using(crate::proofs::Turned::returned_walk, crate::proofs::Turned::awaits_is))]
+    fn handler_returns(&mut self, walk: Walk, called: Called)
+        requires begun { self.old.pending ≡ pending.Nothing }
+        requires some { 0 < length self.old.walks.items }
+        requires called { walk.called ≡ Some called }
+        ensures place { place_in self.new ≡ place_at (place_in self.old).kinds
+            (with_return (walk_of (program_in self.old) walk) (status_of (program_in self.old) called.handler) ∷ walks_in (program_in self.old) (take (length self.old.walks.items - 1) self.old.walks.items))
+            self.old.state }
+        ensures stays { self.new ≡ record self.old { walks = self.new.walks } }
+        ensures room { vec_capacity self.new.walks ≡ vec_capacity self.old.walks }
+    {
+        let mut manage = walk.manage;
+        manage.answer(self.status_of(called.handler));
+        self.set_top(Walk {
+            manage,
+            called: None,
+        });
+    }
+}
