@@ -16,3 +16,7 @@ pub mod Changes
 pub mod Room
 pub mod Stack
 pub mod Turned
+pub mod Doing
+pub mod RowFits
+pub mod Going
+pub mod Answered

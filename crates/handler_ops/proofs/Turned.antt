@@ -144,3 +144,13 @@ pub returned_walk : (program : Program) (w v : Walk) (called : Called) (S : Stat
 returned_walk program w v called S h e f =
     let turns = ap turns_of e ∙ returned_turns w.manage S (calling_goes w.manage (w.awaits called h)) in
     λ j. record { kind = (ap (λ (x : manage.Walk). x.kind) e) j; turns = turns j; running = (ap (λ (x : manage.Walk). x.running) e) j; called = (ap (option_map (call_of program)) f) j }
+
+-- the walk that the code keeps
+pub turned_as : (program : Program) (kinds : List HandlerType) (ws : List OpenWalk) (m : manage.Walk) (s : Serving) (n k : ℕ) (v : manage.Walk) → IsRegistered s.registrations
+    → manage.turn_of m s.registrations ≡ Some n → handler_at n s.registrations ≡ Some k → v ≡ manage.after_turn (Some n) m
+    → after_turn program kinds ws m.kind (turns_of m) m.running s
+    ≡ at_left s.left (ended s)
+    (λ u. place_at kinds
+    (record { kind = v.kind; turns = turns_of v; running = v.running; called = Some (record { handler = k; ops = operations_of program k }) } ∷ ws)
+    (record s { left = u }))
+turned_as program kinds ws m s n k v h e f g = rw g (turned_some program kinds ws m s n k h e f)

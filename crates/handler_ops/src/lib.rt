@@ -2,6 +2,7 @@
 // and procedures that other processors run. It knows no words and no threads.
 #![tactic(auto)]
 
+mod answering;
 mod desk;
 mod held;
 mod laws;

@@ -200,3 +200,124 @@ impl Progress {
         });
     }
 }
+
+impl Progress {
+    /// The operation says its own label, or the collect of a job before it; a manage opens a walk.
+    #[tactic(auto, using(crate::proofs::Doing::known_manage, crate::proofs::Doing::doing_manage, crate::proofs::Doing::doing_other))]
+    fn operate(&mut self, called: Called, saying: Saying) -> Label
+        requires begun { self.old.pending ≡ pending.Nothing }
+        requires room { 4 ≤ vec_capacity self.old.walks }
+        requires fits { IsSomeAnd (slice_get (operations_of (program_in self.old) called.handler) called.at) (λ o. Fits saying (Some o) self.old.state) }
+        ensures label { result ≡ label_in self.old.state.pool saying }
+        ensures place { IfSome (slice_get (operations_of (program_in self.old) called.handler) called.at)
+            (λ o. place_in self.new ≡ after_doing (levels_left (place_in self.old).walks) (place_in self.old).kinds (place_in self.old).walks o self.old.state (label_in self.old.state.pool saying)) }
+        ensures stays { self.new ≡ record self.old { walks = self.new.walks; pending = self.new.pending; state = self.new.state } }
+        ensures room { vec_capacity self.new.walks ≡ vec_capacity self.old.walks }
+    {
+        let setup = &self.setup;
+        match operation_of(setup.handlers.as_slice(), called) {
+            None => known(saying),
+            Some(op) => match manage_kind(op) {
+                Some(kind) => {
+                    self.open_walk(kind);
+                    known(saying)
+                }
+                None => {
+                    let label = self.state.operate(op, saying);
+                    self.pending = pending_by(called, op, label);
+                    label
+                }
+            },
+        }
+    }
+
+    /// A handler that is being called goes on to its next operation, in a unit of its own, or returns.
+    #[tactic(auto, using(crate::proofs::Doing::known_at, crate::proofs::Doing::known_spent, crate::proofs::Doing::begins_fit, crate::proofs::Stack::at_left_none, crate::proofs::Stack::at_left_some))]
+    fn in_call(&mut self, walk: Walk, called: Called, saying: Saying) -> Label
+        requires begun { self.old.pending ≡ pending.Nothing }
+        requires room { 4 ≤ vec_capacity self.old.walks }
+        requires some { 0 < length self.old.walks.items }
+        requires called { walk.called ≡ Some called }
+        requires fits { Fits saying (operation_due (due_in_call (program_in self.old) (levels_left (place_in self.old).walks) called.handler (call_of (program_in self.old) called).ops self.old.state.left)) self.old.state }
+        ensures label { result ≡ label_in self.old.state.pool saying }
+        ensures place { place_in self.new ≡ after_in_call (program_in self.old) (place_in self.old).kinds (walks_in (program_in self.old) (take (length self.old.walks.items - 1) self.old.walks.items))
+            (walk_of (program_in self.old) walk) called.handler (call_of (program_in self.old) called).ops self.old.state (label_in self.old.state.pool saying) }
+        ensures stays { self.new ≡ record self.old { entry = self.new.entry; walks = self.new.walks; pending = self.new.pending; state = self.new.state } }
+        ensures room { vec_capacity self.new.walks ≡ vec_capacity self.old.walks }
+    {
+        match self.operation(called) {
+            None => {
+                self.handler_returns(walk, called);
+                known(saying)
+            }
+            Some(_) => {
+                if self.state.left() == 0 {
+                    self.end();
+                    known(saying)
+                } else {
+                    self.state.begin_unit();
+                    self.set_top(Walk {
+                        manage: walk.manage,
+                        called: Some(Called {
+                            handler: called.handler,
+                            at: called.at + 1,
+                        }),
+                    });
+                    self.operate(called, saying)
+                }
+            }
+        }
+    }
+
+    /// The same where nothing that was begun is still to be said.
+    #[tactic(auto, using(crate::proofs::Doing::known_entry, crate::proofs::Doing::known_turns, crate::proofs::Doing::entered_is, crate::proofs::Doing::in_walks_is, crate::proofs::Doing::due_in_walks_is))]
+    fn say_open(&mut self, saying: Saying) -> Label
+        requires begun { self.old.pending ≡ pending.Nothing }
+        requires room { 4 ≤ vec_capacity self.old.walks }
+        requires fits { Fits saying (operation_due (due_in_walks (program_in self.old) (place_in self.old).kinds (place_in self.old).walks self.old.state.registrations self.old.state.left)) self.old.state }
+        ensures label { result ≡ label_in self.old.state.pool saying }
+        ensures place { place_in self.new ≡ after_in_walks (program_in self.old) (place_in self.old).kinds (place_in self.old).walks self.old.state (label_in self.old.state.pool saying) }
+        ensures stays { self.new ≡ record self.old { entry = self.new.entry; walks = self.new.walks; pending = self.new.pending; state = self.new.state } }
+        ensures room { vec_capacity self.new.walks ≡ vec_capacity self.old.walks }
+    {
+        match self.top() {
+            None => {
+                self.next_entry();
+                known(saying)
+            }
+            Some(walk) => match walk.called {
+                None => {
+                    self.next_turn(walk);
+                    known(saying)
+                }
+                Some(called) => self.in_call(walk, called, saying),
+            },
+        }
+    }
+
+    /// A label is said, with what it changes.
+    #[tactic(auto, using(crate::proofs::Doing::known_at))]
+    pub fn say(&mut self, saying: Saying) -> Label
+        requires room { 4 ≤ vec_capacity self.old.walks }
+        requires fits { Fits saying (operation_due (due (program_in self.old) (place_in self.old))) self.old.state }
+        ensures label { result ≡ label_in self.old.state.pool saying }
+        ensures place { place_in self.new ≡ next (program_in self.old) (place_in self.old) (Own (label_in self.old.state.pool saying)) }
+        ensures stays { self.new ≡ record self.old { entry = self.new.entry; walks = self.new.walks; pending = self.new.pending; state = self.new.state } }
+        ensures room { vec_capacity self.new.walks ≡ vec_capacity self.old.walks }
+    {
+        let pending = self.pending;
+        self.pending = Pending::Nothing;
+        match pending {
+            Pending::Nothing => self.say_open(saying),
+            Pending::First(_) => known(saying),
+            Pending::Awaited { cpu, into } => {
+                self.state.return_to(cpu, into);
+                known(saying)
+            }
+            Pending::Started(called) => match self.operation(called) {
+                Some(_) => self.operate(called, saying),
+                None => self.say_open(saying),
+            },
+        }
+    }
+}

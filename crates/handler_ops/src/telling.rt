@@ -34,7 +34,7 @@ fn register_of(reg: u32) -> Register
     Register::numbered(reg).unwrap_or(Register::Rax)
 }
 
-fn read_label(cpu: u16, reg: u32, width: u8, value: u64, status: Status) -> Label
+pub fn read_label(cpu: u16, reg: u32, width: u8, value: u64, status: Status) -> Label
     ensures { result ≡ read_label cpu reg width value status }
 {
     Label::Read {
@@ -46,7 +46,7 @@ fn read_label(cpu: u16, reg: u32, width: u8, value: u64, status: Status) -> Labe
     }
 }
 
-fn write_label(cpu: u16, reg: u32, width: u8, value: u64, status: Status) -> Label
+pub fn write_label(cpu: u16, reg: u32, width: u8, value: u64, status: Status) -> Label
     ensures { result ≡ write_label cpu reg width value status }
 {
     Label::Write {
@@ -128,7 +128,7 @@ fn position_of(procedures: &[ProcedureDef], name: &str) -> Option<usize>
 impl Progress {
     /// The id of a processor, or 0 where the platform hasn't the processor.
     #[tactic(auto, using(crate::proofs::Dues::index_is))]
-    fn id_of(&self, c: u16) -> u64
+    pub fn id_of(&self, c: u16) -> u64
         ensures { result ≡ slice_index_or (setting_in self.now).ids c 0 }
     {
         self.setup.ids.id_of(c).unwrap_or(0)
@@ -489,7 +489,8 @@ impl Progress {
     /// How many levels may be opened above the open walks.
     #[tactic(auto, using(crate::proofs::Dues::levels_are))]
     pub fn levels(&self) -> usize
-        ensures { result ≡ levels_left (place_in self.now).walks }
+        ensures left { result ≡ levels_left (place_in self.now).walks }
+        ensures few { result ≡ 4 - length self.now.walks.items }
     {
         MOST_LEVELS.saturating_sub(self.walks.len())
     }
