@@ -105,13 +105,13 @@ started_begun program (op.Start cpu name arg into) c j p a = refl
 started_begun program _ c j p a = refl
 
 quiet : (kinds : List HandlerType) (ws : List OpenWalk) (b : Option Begun) (s : Serving) → b ≡ None
-    → record { kinds = kinds; walks = ws; begun = None; state = s } ≡ record { kinds = kinds; walks = ws; begun = b; state = s }
-quiet kinds ws b s e = ap (λ (c : Option Begun). record { kinds = kinds; walks = ws; begun = c; state = s }) (sym e)
+    → ◌≡◌ {A = Place} (record { kinds = kinds; walks = ws; begun = None; state = s }) (record { kinds = kinds; walks = ws; begun = b; state = s })
+quiet kinds ws b s e = ap {B = Place} (λ (c : Option Begun). record { kinds = kinds; walks = ws; begun = c; state = s }) (sym e)
 
 -- an operation that is no manage leaves what its label says
 pub operating_is : (program : Program) (kinds : List HandlerType) (ws : List OpenWalk) (called : Called) (o : OpDef) (s : Serving) (l : Label)
     → slice_get (operations_of program called.handler) called.at ≡ Some o
-    → record { kinds = kinds; walks = ws; begun = begun_in program (pending_by called o l); state = operated o s l } ≡ after_operating kinds ws o s l
+    → ◌≡◌ {A = Place} (record { kinds = kinds; walks = ws; begun = begun_in program (pending_by called o l); state = operated o s l }) (after_operating kinds ws o s l)
 operating_is program kinds ws called o s (say.Collect c) e =
     ap (λ (b : Option Begun). record { kinds = kinds; walks = ws; begun = b; state = operated o s (say.Collect c) }) (ap (option_map Started) e)
 operating_is program kinds ws called o s (say.Start c j p a) e =

@@ -1,6 +1,6 @@
 -- A label keeps a seat for each processor, and no more jobs are given than units begin.
-use Rattle.std.proofs.Common.{◌≡◌, ◌≤◌, ◌+◌, ℕ, zero, suc, List, [], ◌∷◌, length, Option, Some, None, refl, ap, ◌∙◌, arith}
-use Rattle.std.specs.Prelude.{slice_set}
+use Rattle.std.proofs.Common.{◌≡◌, ◌≤◌, ◌+◌, ℕ, zero, suc, Bool, true, false, List, [], ◌∷◌, length, Option, Some, None, refl, sym, ap, subst, ◌∙◌, arith}
+use Rattle.std.specs.Prelude.{slice_set, ◌==◌, if◌then◌else◌, Result, Ok, Err}
 use Rattle.smm_base.specs.declared.kinds.HandlerType.{HandlerType}
 use Rattle.smm_base.specs.declared.status.Status.{Status}
 use Rattle.smm_base.specs.declared.status.Status.TheVariants.{Success}
@@ -9,15 +9,23 @@ use Rattle.cpu_table.specs.declared.handlers.OpDef.TheVariants as op
 use Rattle.sync_words.specs.declared.label.Label.{Label}
 use Rattle.sync_words.specs.declared.label.Label.TheVariants as say
 use Rattle.handler_registry.specs.declared.registration.Registration.{Registration}
-use Rattle.handler_registry.specs.Registrations.{is_full}
 use Rattle.smi_manage.specs.declared.running.Running.{Running}
+use Rattle.smram_pool.specs.declared.error.PoolError.{PoolError}
+use Rattle.smram_pool.specs.State.{allocated, freed}
+use Rattle.handler_ops.specs.declared.row.Row.{Row}
+use Rattle.handler_ops.specs.declared.row.Row.TheVariants as row
+use Rattle.handler_ops.specs.Sessions.{Session, setting_of}
+use Rattle.handler_ops.specs.Told.{step_as, read_at_hand, write_at_hand}
+use Rattle.handler_ops.specs.Answering.{HasTold}
+use Rattle.handler_ops.proofs.Answered.{read_fits, write_fits}
+use Rattle.handler_ops.proofs.RowFits.{row_fits}
 use Rattle.handler_ops.specs.Serving.{Serving, Seat, Free, Open, Done, seat, put_on, collected, put_result, returned, dropped, ran}
-use Rattle.handler_ops.specs.Operations.{after, register_on, drop_on}
+use Rattle.handler_ops.specs.Operations.{after, register_on, drop_on, free_status}
 use Rattle.handler_ops.specs.Forms.{Program, Own, turn_of}
 use Rattle.handler_ops.specs.Places.{Place, OpenWalk, Call, Begun, First, Started, Awaited, one_less, levels_left, at_left, at_turn, at_collect, awaits_after, begun_by, with_walk, after_operating, after_doing, after_turn, after_in_call, after_in_walk, after_in_walks, after_begun, next}
-use Rattle.handler_ops.specs.Course.{tokens_out, due, due_in_call, due_in_walk, due_in_walks, due_begun}
+use Rattle.handler_ops.specs.Course.{Setting, Course, Desks, JobDone, Quiet, Speaks, Takes, desk_of, done_on, after_all, with_run, moved, alloc_label, due, due_in_call, due_in_walk, due_in_walks, due_begun}
 use Rattle.handler_ops.specs.Progresses.{begun_jobs, Goes}
-use Rattle.handler_ops.specs.Sayings.{LabelFits, operation_due}
+use Rattle.handler_ops.specs.Sayings.{Known, Fits, RowFits, operation_due}
 
 -- the seats and the units of two states
 record Keeps (k : ℕ) (s t : Serving) : Type 0 where
@@ -131,7 +139,7 @@ call_reaches program kinds ws w h (o ∷ os) s l n e = at_units s.left refl e
   where
     at_units : (k : ℕ) → s.left ≡ k → JobDue (operation_due (due_in_call program n h (o ∷ os) k)) l s.given
         → Reaches 0 s (at_left k (record { kinds = []; walks = []; begun = None; state = s })
-            (λ m. after_doing (one_less (levels_left ws)) kinds (record w { called = Some (record { handler = h; ops = os }) } ∷ ws) o (record s { left = m }) l))
+        (λ m. after_doing (one_less (levels_left ws)) kinds (record w { called = Some (record { handler = h; ops = os }) } ∷ ws) o (record s { left = m }) l))
     at_units zero q e = stands 0 s s [] [] (same 0 s)
     at_units (suc m) q e = less s m _ q (doing_reaches (one_less (levels_left ws)) kinds _ o (record s { left = m }) l e)
 
@@ -162,3 +170,55 @@ next_goes program n p l e g =
 
 pub ran_goes : (n : ℕ) (p : Place) (c x : ℕ) (S : Status) → Goes n p → Goes n (record p { state = ran c x S p.state })
 ran_goes n p c x S g = record { seats = size p.state.seats c _ ∙ g.seats; units = g.units }
+
+known_job : (o : Option OpDef) (l : Label) (s : Serving) → Fits (Known l) o s → JobDue o l s.given
+known_job None l s h = tt
+known_job (Some o) (say.Start c j p a) s h = h.0
+known_job (Some o) _ s h = tt
+
+alloc_job : (o : Option OpDef) (n given : ℕ) (r : Result ℕ PoolError) → JobDue o (alloc_label n r) given
+alloc_job None n given r = tt
+alloc_job (Some o) n given (Ok place) = tt
+alloc_job (Some o) n given (Err e) = tt
+
+plain_job : (o : Option OpDef) (n given : ℕ) (S : Status) → JobDue o (say.Free n S) given
+plain_job None n given S = tt
+plain_job (Some o) n given S = tt
+
+collect_job : (o : Option OpDef) (c given : ℕ) → JobDue o (say.Collect c) given
+collect_job None c given = tt
+collect_job (Some o) c given = tt
+
+collect_goes : (program : Program) (n : ℕ) (p : Place) (c : ℕ) (d : Option JobDone) → Goes n p → Goes n (after_all program p (with_run c d))
+collect_goes program n p c None g = next_goes program n p (say.Collect c) (collect_job (operation_due (due program p)) c p.state.given) g
+collect_goes program n p c (Some d) g =
+    let q : Place = record p { state = ran c d.result d.status p.state } in
+    next_goes program n q (say.Collect c) (collect_job (operation_due (due program q)) c q.state.given) (ran_goes n p c d.result d.status g)
+
+-- what an answer makes of a course
+pub answer_goes : (t : Setting) (c : Course) (told : Row) (found : ℕ) (held : Desks) (n : ℕ) → RowFits told (operation_due (due t.program c.place)) c.place.state → Goes n c.place
+    → Goes n (moved t c ((step_as t c.place.state told).on found held) held).place
+answer_goes t c row.Finished found held n h g = g
+answer_goes t c (row.Looking l) found held n h g = next_goes t.program n c.place l (known_job _ l c.place.state h) g
+answer_goes t c (row.ClaimingDesk k l) found held n h g = at_found (found == 1)
+  where
+    at_found : (b : Bool) → Goes n (moved t c (if b then Quiet false else Speaks l) held).place
+    at_found true = g
+    at_found false = next_goes t.program n c.place l (known_job _ l c.place.state h) g
+answer_goes t c (row.ClaimingJob k l) found held n h g = at_found (found == 2)
+  where
+    at_found : (b : Bool) → Goes n (moved t c (if b then Takes k else Speaks l) held).place
+    at_found true = collect_goes t.program n c.place k (done_on (desk_of held k)) g
+    at_found false = next_goes t.program n c.place l (known_job _ l c.place.state h) g
+answer_goes t c (row.AwaitingJob k) found held n h g = collect_goes t.program n c.place k (done_on (desk_of held k)) g
+answer_goes t c (row.Putting k) found held n h g = g
+answer_goes t c (row.Raising k l) found held n h g = next_goes t.program n c.place l (known_job _ l c.place.state h) g
+answer_goes t c (row.Reading k reg width) found held n h g =
+    next_goes t.program n c.place (read_at_hand t k reg width held) (known_job _ (read_at_hand t k reg width held) c.place.state (read_fits t k reg width held _ c.place.state)) g
+answer_goes t c (row.Writing k reg width x) found held n h g =
+    next_goes t.program n c.place (write_at_hand k reg width x held) (known_job _ (write_at_hand k reg width x held) c.place.state (write_fits k reg width x held _ c.place.state)) g
+answer_goes t c (row.Allocating size) found held n h g = next_goes t.program n c.place _ (alloc_job _ size c.place.state.given (allocated size c.place.state.pool).0) g
+answer_goes t c (row.Freeing place) found held n h g = next_goes t.program n c.place _ (plain_job _ place c.place.state.given (free_status (freed place c.place.state.pool).0)) g
+
+pub told_fits : (s : Session) → HasTold s → RowFits s.told (operation_due (due (setting_of s).program s.course.place)) s.course.place.state
+told_fits s h = subst (λ (r : Row). RowFits r (operation_due (due (setting_of s).program s.course.place)) s.course.place.state) (sym h.told) (row_fits (setting_of s) h.held s.course)

@@ -122,7 +122,12 @@ impl Progress {
                 let label = self.read_at_hand(desks, cpu, reg, width);
                 self.speak(Saying::Known(label))
             }
-            Row::Writing { cpu, reg, width, value } => {
+            Row::Writing {
+                cpu,
+                reg,
+                width,
+                value,
+            } => {
                 let label = write_at_hand(desks, cpu, reg, width, value);
                 self.speak(Saying::Known(label))
             }

@@ -1,4 +1,4 @@
-ghost use Rattle.std.specs.Prelude.{◌≡◌, ◌≤◌, take, replicate, IsSomeAnd, IfSome};
+ghost use Rattle.std.specs.Prelude.{◌≡◌, ◌≤◌, true, take, replicate, IsSomeAnd, IfSome};
 ghost use Rattle.save_state_access.specs.Reading.{read_answer};
 ghost use Rattle.handler_ops.specs.Course.{shown_value, write_of};
 ghost use Rattle.handler_ops.specs.Procedures.{read_whole, write_whole, act_on, job_on, desk_with, CanRun};
