@@ -121,9 +121,6 @@ is_class_by : (b : Bool) (x y : ℕ) → IsClass x → IsClass y → IsClass (co
 is_class_by true x y h k = h
 is_class_by false x y h k = k
 
-class_of : (n : ℕ) → 0 < n → n ≤ 6 → IsClass n
-class_of n a b = (a, b)
-
 pub class_for_is : (size : ℕ) → IsClass (class_for size)
 class_for_is size =
     is_class_by (leb size 64) 6 _ (omega arith, omega arith)
