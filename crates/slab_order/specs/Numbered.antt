@@ -22,7 +22,7 @@ abbrev pub IsRisingBy : {T : Type 0} → (T → ℕ) → ℕ → ℕ → List T 
 IsRisingBy number above last [] = Unit {0}
 IsRisingBy number above last (value ∷ rest) = (above < number value) × (number value ≤ last) × IsRisingBy number (number value) last rest
 
--- the order has the key of each value once, by rising number up to the last; there is room for the most
+-- the order has the key of each value once, by rising number up to the last; these are at most so many, and the slab and the order have room for as many
 pub record IsOrderedBy {T : Type 0} (number : T → ℕ) (slab : Slab T) (order : List ℕ) (most room last : ℕ) : Type 0 where
   pub ordered : IsOrder slab order
   pub counted : slab_len slab ≡ length order
