@@ -1,8 +1,9 @@
 -- What a new value, a value less and a value for a value keep of a slab and the order of its keys, and what is then at the keys.
-use Rattle.std.proofs.Common.{◌≡◌, ℕ, zero, suc, ◌+◌, ◌<◌, Bool, true, false, List, [], ◌∷◌, ◌++◌, length, get_or, Option, Some, None, IsSome, refl, sym, ◌∙◌, arith}
+use Rattle.std.proofs.Common.{◌≡◌, ℕ, ◌+◌, ◌<◌, Bool, true, false, List, [], ◌∷◌, ◌++◌, length, get_or, Option, Some, None, IsSome, refl, sym, ◌∙◌, arith}
 use Rattle.std.specs.List.{All, position, remove}
 use Rattle.std.specs.Option.{option_map_or}
 use Rattle.std.proofs.lemmas.Grind.{common_steps}
+use Rattle.std.proofs.lemmas.List.{get_or_default}
 use Rattle.std.proofs.lemmas.List.Folds.{list_any_none}
 use Rattle.std.proofs.lemmas.List.Edits.{length-remove}
 use Rattle.std.proofs.lemmas.List.Quantifiers.{position-Some}
@@ -11,11 +12,6 @@ use Rattle.slab_order.specs.Order.{values_at}
 use Rattle.slab_order.specs.Numbered.{is_numbered, is_at, without, IsRisingBy, IsOrderedBy}
 use Rattle.slab_order.proofs.OrderLemmas.{length-values, apart_vacant, order_pushed, values_pushed, order_removed, order_set, any_values}
 use Rattle.slab_order.proofs.RisingLemmas.{rising_filtered, without_none, values_removed}
-
-get_or_within : {A : Type 0} (xs : List A) (i : ℕ) (d e : A) → i < length xs → get_or xs i d ≡ get_or xs i e
-get_or_within [] i d e h = absurd (omega (arith, h))
-get_or_within (x ∷ rest) zero d e h = refl
-get_or_within (x ∷ rest) (suc i) d e h = get_or_within rest i d e (omega (arith, h))
 
 pub has_value : {T : Type 0} (p : T → Bool) (o : Option T) → option_map_or p o false ≡ true → IsSome o
 has_value p None h = absurd (grind (arith, h))
@@ -55,7 +51,7 @@ module _ {T : Type 0} (number : T → ℕ) where
   pub found_place : (slab : Slab T) (order : List ℕ) (n i key : ℕ) → position (is_at number slab n) order ≡ Some i → key ≡ get_or order i key → IsFound number slab order n i key
   found_place slab order n i key p e =
       let h = position-Some (is_at number slab n) order i 0 p in
-      let at : get_or order i 0 ≡ key = get_or_within order i 0 key h.0 ∙ sym e in
+      let at : get_or order i 0 ≡ key = get_or_default order i 0 key h.0 ∙ sym e in
       record { within = h.0; at = at; here = rw at at (h.1); before = h.2 }
 
   pub shown_less : (slab new : Slab T) (key n : ℕ) (order : List ℕ) (i most room last : ℕ) →
