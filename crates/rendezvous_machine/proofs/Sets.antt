@@ -7,7 +7,8 @@ use Rattle.sync_words.specs.declared.label.Label.{Label}
 use Rattle.sync_words.specs.declared.label.Label.TheVariants as say
 use Rattle.rendezvous_machine.specs.Machines.{Machine, Session, Member, Phase, Out, In, Counted, Here, Gone, Off, nobody, member, first_member, beginning, is_here, is_counted_phase, is_counted, IsClosed, AllDeparted}
 use Rattle.rendezvous_machine.specs.Rules.{Rule}
-use Rattle.rendezvous_machine.specs.Effects.{effect, with_member, entered, resumed, worked, given, written, serves, gathers, made_ready, has_expired, made_closed, made_begun, made_done, says, hears, enclosed, cleared}
+use Rattle.rendezvous_machine.specs.Services.{written}
+use Rattle.rendezvous_machine.specs.Effects.{effect, with_member, entered, resumed, worked, given, serves, gathers, made_ready, has_expired, made_closed, made_begun, made_done, says, hears, enclosed, cleared}
 use Rattle.rendezvous_machine.proofs.Walks.{either}
 
 -- an entry of a list of processors of which one was set
@@ -243,10 +244,11 @@ fits d m i say.Done r h = λ j. finishing m.session _ (member m j) (λ s q. (q.1
 fits d m i (say.Release c) r h = one m c (record (member m c) { is_released = true }) (releasing m.session i (member m c) r.0 (h c)) h
 fits d m i say.Depart r h = one m i (record (member m i) { phase = Gone; has_departed = true }) (departing m.session _ (member m i) r.2 r.1 (h i)) h
 fits d m i say.End r h = λ j.
-    subst (FitsMember None) (sym (mapped cleared refl (slice_set m.members i (record (member m i) { phase = Gone })) j))
-    (record { outside = refl; kept = refl; stayed = refl },
-    set_elsewhere (λ k y. is_here y.phase ≡ false) m.members i j (record (member m i) { phase = Gone }) refl refl
-    (λ other within. ending m.session i (member m j) r.0 (r.1 j within other) (h j)))
+    subst (FitsMember None) (sym (mapped cleared refl (slice_set m.members i (record (member m i) { phase = Gone })) j)) (
+      record { outside = refl; kept = refl; stayed = refl },
+      set_elsewhere (λ k y. is_here y.phase ≡ false) m.members i j (record (member m i) { phase = Gone }) refl refl
+          (λ other within. ending m.session i (member m j) r.0 (r.1 j within other) (h j)),
+    )
 fits d m i (say.Resume how) r h = one m i (resumed (member m i)) (moving m.session (member m i) Gone Out r.0 refl refl refl (h i)) h
 fits d m i say.Off r h = one m i (record (member m i) { phase = Off }) (moving m.session (member m i) Out Off r.0 refl refl refl (h i)) h
 fits d m i l r h = λ j. alike m.session (says l) (member m j) (λ s. refl) (λ s. refl) (h j)

@@ -5,10 +5,11 @@ use Rattle.cpu_table.specs.Data.{SetupData}
 use Rattle.sync_words.specs.declared.label.Label.{Label}
 use Rattle.sync_words.specs.declared.label.Label.TheVariants as say
 use Rattle.handler_ops.specs.Forms.{Event, Own, Ran}
-use Rattle.rendezvous_machine.specs.Machines.{Machine, Session, Member, Phase, Here, nobody, member, is_here}
+use Rattle.rendezvous_machine.specs.Machines.{Machine, Session, Member, Phase, Out, In, Counted, Here, Gone, Off, nobody, member, is_here}
 use Rattle.rendezvous_machine.specs.Listed.{place_of, is_over, grown, grown_unless, IsServed}
 use Rattle.rendezvous_machine.specs.Rules.{Rule}
-use Rattle.rendezvous_machine.specs.Effects.{effect, opened, serves, gathers, made_ready, has_expired, made_begun, made_done, enclosed, cleared}
+use Rattle.rendezvous_machine.specs.Services.{written}
+use Rattle.rendezvous_machine.specs.Effects.{effect, serves, gathers, made_ready, has_expired, made_begun, made_done, enclosed, entered, resumed, worked, given}
 use Rattle.rendezvous_machine.specs.Runs.{Said}
 use Rattle.rendezvous_machine.specs.Histories.{is_end, has_end, HasSaid, HasAll}
 use Rattle.rendezvous_machine.proofs.Walks.{later, now}
@@ -194,13 +195,13 @@ waited_after d past m i (say.Ready n) r h =
     (λ s q w. record {
       took = λ b t. later s.bsp (say.Gather b) past (i, say.Ready n) refl (w.took b t);
       counted = λ t. let g = some_of s.gathered _ q.1.2 in
-      record {
-        members = n;
-        blocked = g.0;
-        enough = g.2;
-        gathered = later s.bsp (say.Gather g.0) past (i, say.Ready n) refl (w.took g.0 g.1);
-        ready = now_by i s.bsp (say.Ready n) past q.0;
-      };
+          record {
+            members = n;
+            blocked = g.0;
+            enough = g.2;
+            gathered = later s.bsp (say.Gather g.0) past (i, say.Ready n) refl (w.took g.0 g.1);
+            ready = now_by i s.bsp (say.Ready n) past q.0;
+          };
       twice = λ t. later s.bsp (say.Expire 2) past (i, say.Ready n) refl (w.twice t);
     }) r.0 h
 waited_after d past m i (say.Expire k) r h =
@@ -235,3 +236,34 @@ one_told : (past : List Said) (m : Machine) (i c : ℕ) (l : Label) (x : Member)
 one_told past m i c l x n new old xs e j =
     set_at (Reported (past ++ (i, l) ∷ [])) xs c j x new
     (λ t. later j say.Report past (i, l) n (old j (subst (λ ys. is_here (slice_index_or ys j nobody).phase ≡ true) e t)))
+
+-- a phase in which a processor isn't there
+pub told : (d : SetupData) (past : List Said) (m : Machine) (i : ℕ) (l : Label) → Rule d m i l → AllFit m → AllTold past m
+    → AllTold (past ++ (i, l) ∷ []) (effect d m i l)
+told d past m i say.Enter r f h = one_told past m i i say.Enter (entered d i (member m i)) refl (elsewhere In refl) h m.members refl
+told d past m i say.Turn r f h = one_told past m i i say.Turn (record (member m i) { phase = Gone }) refl (elsewhere Gone refl) h m.members refl
+told d past m i say.Arrive r f h = one_told past m i i say.Arrive (record (member m i) { phase = Counted }) refl (elsewhere Counted refl) h m.members refl
+told d past m i say.Late r f h = one_told past m i i say.Late (record (member m i) { phase = Gone }) refl (elsewhere Gone refl) h m.members refl
+told d past m i say.Quit r f h = one_told past m i i say.Quit (record (member m i) { phase = Gone }) refl (elsewhere Gone refl) h m.members refl
+told d past m i say.Report r f h = one_told past m i i say.Report (record (member m i) { phase = Here }) refl (λ t. now i say.Report past) h m.members refl
+told d past m i (say.Close n) r f h = λ j.
+    subst (Reported (past ++ (i, say.Close n) ∷ []) j) (sym (mapped enclosed refl m.members j)) (λ t. later j say.Report past (i, say.Close n) refl (h j t))
+told d past m i (say.Write c register width x S) r f h =
+    one_told past m i c (say.Write c register width x S) (record (member m c) { image = written S register width x (member m c).image }) refl
+    (λ t. later c say.Report past (i, say.Write c register width x S) refl (h c t)) h m.members refl
+told d past m i (say.Start c k p a) r f h =
+    one_told past m i c (say.Start c k p a) (record (member m c) { job = given k p a }) refl
+    (λ t. later c say.Report past (i, say.Start c k p a) refl (h c t)) h m.members refl
+told d past m i (say.Run k x S) r f h =
+    one_told past m i i (say.Run k x S) (worked d (x, S) (member m i)) refl (λ t. later i say.Report past (i, say.Run k x S) refl (h i t)) h m.members refl
+told d past m i (say.Collect c) r f h =
+    one_told past m i c (say.Collect c) (record (member m c) { job = None }) refl (λ t. later c say.Report past (i, say.Collect c) refl (h c t)) h m.members refl
+told d past m i (say.Release c) r f h =
+    one_told past m i c (say.Release c) (record (member m c) { is_released = true }) refl
+    (λ t. later c say.Report past (i, say.Release c) refl (h c t)) h m.members refl
+told d past m i say.Depart r f h =
+    one_told past m i i say.Depart (record (member m i) { phase = Gone; has_departed = true }) refl (elsewhere Gone refl) h m.members refl
+told d past m i say.End r f h = λ j t. absurd (true≢false (sym t ∙ (fits d m i say.End r f j).1))
+told d past m i (say.Resume how) r f h = one_told past m i i (say.Resume how) (resumed (member m i)) refl (elsewhere Out refl) h m.members refl
+told d past m i say.Off r f h = one_told past m i i say.Off (record (member m i) { phase = Off }) refl (elsewhere Off refl) h m.members refl
+told d past m i l r f h = λ j t. later j say.Report past (i, l) refl (h j t)

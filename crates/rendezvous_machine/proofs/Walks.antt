@@ -59,8 +59,8 @@ later i l past e n h =
       front = h.front;
       back = h.back ++ e ∷ [];
       whole = ap (λ xs. xs ++ e ∷ []) h.whole ∙ append_assoc h.front ((i, l) ∷ h.back) (e ∷ []);
-      open = open_push h.back e h.open n;
+      since = open_push h.back e h.since n;
     }
 
 pub now : (i : ℕ) (l : Label) (past : List Said) → HasSaid i l (past ++ (i, l) ∷ [])
-now i l past = record { front = past; back = []; whole = refl; open = refl }
+now i l past = record { front = past; back = []; whole = refl; since = refl }

@@ -19,7 +19,7 @@ pub record HasSaid (i : ℕ) (l : Label) (es : List Said) : Type 0 where
   pub front : List Said
   pub back : List Said
   pub whole : es ≡ front ++ (i, l) ∷ back
-  pub open : has_end back ≡ false
+  pub since : has_end back ≡ false
 
 -- the actor began to serve a wave, and not none
 abbrev pub HasBegun : ℕ → List Said → Type 0
