@@ -6,23 +6,25 @@ use Rattle.cpu_table.specs.Data.{SetupData}
 use Rattle.sync_words.specs.declared.label.Label.{Label}
 use Rattle.sync_words.specs.declared.label.Label.TheVariants as say
 use Rattle.rendezvous_machine.specs.Machines.{Machine, Session, Member, Phase, Out, In, Counted, Here, Gone, Off, nobody, member, first_member, beginning, is_here, is_counted_phase, is_counted, IsClosed, AllDeparted}
+use Rattle.handler_ops.specs.Forms.{Own, Ran}
+use Rattle.rendezvous_machine.specs.Listed.{place_of, is_over}
 use Rattle.rendezvous_machine.specs.Rules.{Rule}
 use Rattle.rendezvous_machine.specs.Services.{written}
 use Rattle.rendezvous_machine.specs.Effects.{effect, with_member, entered, resumed, worked, given, serves, gathers, made_ready, has_expired, made_closed, made_begun, made_done, says, hears, enclosed, cleared}
 use Rattle.rendezvous_machine.proofs.Walks.{either}
 
 -- an entry of a list of processors of which one was set
-record IsOther (xs : List Member) (i j : ℕ) (x : Member) : Type 0 where
-  other : j ≢ i
-  same : slice_index_or (slice_set xs i x) j nobody ≡ slice_index_or xs j nobody
+pub record IsOther (xs : List Member) (i j : ℕ) (x : Member) : Type 0 where
+  pub other : j ≢ i
+  pub same : slice_index_or (slice_set xs i x) j nobody ≡ slice_index_or xs j nobody
 
-record IsNew (xs : List Member) (i j : ℕ) (x : Member) : Type 0 where
-  same : j ≡ i
-  new : slice_index_or (slice_set xs i x) j nobody ≡ x
+pub record IsNew (xs : List Member) (i j : ℕ) (x : Member) : Type 0 where
+  pub same : j ≡ i
+  pub new : slice_index_or (slice_set xs i x) j nobody ≡ x
 
-record IsNone (xs : List Member) (i j : ℕ) (x : Member) : Type 0 where
-  new : slice_index_or (slice_set xs i x) j nobody ≡ nobody
-  old : nobody ≡ slice_index_or xs j nobody
+pub record IsNone (xs : List Member) (i j : ℕ) (x : Member) : Type 0 where
+  pub new : slice_index_or (slice_set xs i x) j nobody ≡ nobody
+  pub old : nobody ≡ slice_index_or xs j nobody
 
 set_or : (xs : List Member) (i j : ℕ) (x : Member) → IsNew xs i j x ⊎ (IsOther xs i j x ⊎ IsNone xs i j x)
 set_or [] i j x = inr (inr (record { new = refl; old = refl }))
@@ -70,27 +72,27 @@ mapped f e (x ∷ xs) zero = refl
 mapped f e (x ∷ xs) (suc j) = mapped f e xs j
 
 -- A processor's sets: in none; waiting in a closed session; on its way out of one.
-record IsApart (a b c : Bool) : Type 0 where
-  outside : a ≡ false
-  kept : b ≡ false
-  stayed : c ≡ false
+pub record IsApart (a b c : Bool) : Type 0 where
+  pub outside : a ≡ false
+  pub kept : b ≡ false
+  pub stayed : c ≡ false
 
-record IsWaiting (p : Phase) (a b c : Bool) : Type 0 where
-  inside : a ≡ is_counted_phase p
-  kept : b ≡ false
-  stayed : c ≡ false
+pub record IsWaiting (p : Phase) (a b c : Bool) : Type 0 where
+  pub inside : a ≡ is_counted_phase p
+  pub kept : b ≡ false
+  pub stayed : c ≡ false
 
-record IsLeaving (p : Phase) (a c : Bool) : Type 0 where
-  inside : c ≡ false → a ≡ is_counted_phase p
-  left : c ≡ true → is_counted_phase p ≡ false
+pub record IsLeaving (p : Phase) (a c : Bool) : Type 0 where
+  pub inside : c ≡ false → a ≡ is_counted_phase p
+  pub left : c ≡ true → is_counted_phase p ≡ false
 
 -- by whether the session is closed, and done
-abbrev FitsSession : Bool → Bool → Phase → Bool → Bool → Bool → Type 0
+abbrev pub FitsSession : Bool → Bool → Phase → Bool → Bool → Bool → Type 0
 FitsSession false done p a b c = IsApart a b c × (done ≡ false)
 FitsSession true false p a b c = IsWaiting p a b c
 FitsSession true true p a b c = IsLeaving p a c
 
-abbrev Fits : Option Session → Phase → Bool → Bool → Bool → Type 0
+abbrev pub Fits : Option Session → Phase → Bool → Bool → Bool → Type 0
 Fits None p a b c = IsApart a b c × (is_here p ≡ false)
 Fits (Some s) p a b c = FitsSession s.is_closed s.is_done p a b c
 
@@ -212,6 +214,11 @@ alike (Some s) f x e g h =
 one : (m : Machine) (i : ℕ) (x : Member) → FitsMember m.session x → AllFit m → (j : ℕ) → FitsMember m.session (member (with_member i x m) j)
 one m i x new old j = set_at (λ k y. FitsMember m.session y) m.members i j x new (old j)
 
+-- a processor is set, and the session goes on
+onward : (m : Machine) (f : Session → Session) (i : ℕ) (x : Member) → ((s : Session) → (f s).is_closed ≡ s.is_closed) → ((s : Session) → (f s).is_done ≡ s.is_done)
+    → FitsMember m.session x → AllFit m → (j : ℕ) → FitsMember (option_map f m.session) (member (with_member i x m) j)
+onward m f i x e g new old j = alike m.session f (member (with_member i x m) j) e g (one m i x new old j)
+
 pub fits : (d : SetupData) (m : Machine) (i : ℕ) (l : Label) → Rule d m i l → AllFit m → AllFit (effect d m i l)
 fits d m i say.Silent r h = h
 fits d m i (say.Excepted e) r h = h
@@ -231,15 +238,11 @@ fits d m i (say.Close n) r h = λ j.
     subst (FitsMember (option_map made_closed m.session)) (sym (mapped enclosed refl m.members j))
     (closing m.session _ (member m j) (λ s q. q.1.0) r.0 (h j))
 fits d m i (say.Begin w) r h = λ j. alike m.session (made_begun w) (member m j) (λ s. refl) (λ s. refl) (h j)
-fits d m i (say.Write c register width x S) r h = λ j.
-    alike m.session (says (say.Write c register width x S)) _ (λ s. refl) (λ s. refl)
-    (one m c (record (member m c) { image = written S register width x (member m c).image }) (h c) h j)
-fits d m i (say.Start c k p a) r h = λ j.
-    alike m.session (says (say.Start c k p a)) _ (λ s. refl) (λ s. refl) (one m c (record (member m c) { job = given k p a }) (h c) h j)
-fits d m i (say.Run k x S) r h = λ j.
-    alike m.session (hears _ _) _ (λ s. refl) (λ s. refl) (one m i (worked d (x, S) (member m i)) (h i) h j)
-fits d m i (say.Collect c) r h = λ j.
-    alike m.session (hears _ _) _ (λ s. refl) (λ s. refl) (one m c (record (member m c) { job = None }) (h c) h j)
+fits d m i (say.Write c register width x S) r h =
+    onward m (says (say.Write c register width x S)) c (record (member m c) { image = written S register width x (member m c).image }) (λ s. refl) (λ s. refl) (h c) h
+fits d m i (say.Start c k p a) r h = onward m (says (say.Start c k p a)) c (record (member m c) { job = given k p a }) (λ s. refl) (λ s. refl) (h c) h
+fits d m i (say.Run k x S) r h = onward m (hears (is_over (place_of d m)) (Ran i k x S)) i (worked d (x, S) (member m i)) (λ s. refl) (λ s. refl) (h i) h
+fits d m i (say.Collect c) r h = onward m (hears (is_over (place_of d m)) (Own (say.Collect c))) c (record (member m c) { job = None }) (λ s. refl) (λ s. refl) (h c) h
 fits d m i say.Done r h = λ j. finishing m.session _ (member m j) (λ s q. (q.1.2, q.1.0)) r.0 (h j)
 fits d m i (say.Release c) r h = one m c (record (member m c) { is_released = true }) (releasing m.session i (member m c) r.0 (h c)) h
 fits d m i say.Depart r h = one m i (record (member m i) { phase = Gone; has_departed = true }) (departing m.session _ (member m i) r.2 r.1 (h i)) h

@@ -1,5 +1,5 @@
 -- What was said before: that serving began, that the boot processor waited, that a processor reported.
-use Rattle.std.proofs.Common.{◌≡◌, ◌≢◌, ◌<◌, ◌≤◌, ◌⊎◌, ℕ, zero, suc, ◌+◌, Bool, true, false, List, [], ◌∷◌, ◌++◌, length, map, slice_index_or, IfSome, IsSomeAnd, Option, Some, None, is_some, unwrap_or, refl, sym, ap, subst, inl, inr, ◌∙◌, true≢false, arith}
+use Rattle.std.proofs.Common.{◌≡◌, ◌≢◌, ◌<◌, ◌≤◌, ◌⊎◌, ℕ, zero, suc, ◌+◌, Bool, true, false, List, [], ◌∷◌, ◌++◌, length, map, slice_index_or, slice_set, IfSome, IsSomeAnd, Option, Some, None, is_some, unwrap_or, refl, sym, ap, subst, inl, inr, ◌∙◌, true≢false, arith}
 use Rattle.std.specs.Option.{option_map}
 use Rattle.cpu_table.specs.Data.{SetupData}
 use Rattle.sync_words.specs.declared.label.Label.{Label}
@@ -20,7 +20,7 @@ pub some_of : {A : Type 0} (o : Option A) (F : A → Type 0) → IsSomeAnd o F �
 some_of None F h = absurd h
 some_of (Some x) F h = (x, refl, h)
 
-not_some : {A B : Type 0} (o : Option A) (x : A) → o ≡ None → o ≡ Some x → B
+pub not_some : {A B : Type 0} (o : Option A) (x : A) → o ≡ None → o ≡ Some x → B
 not_some None x e f = cc
 not_some (Some y) x e f = cc
 
@@ -70,7 +70,7 @@ was_unless : (b : Bool) (e : Event) (o : Option (List Event)) → is_some (grown
 was_unless true e o h = h
 was_unless false e o h = was_some _ o h
 
-is_begin : Label → Bool
+abbrev is_begin : Label → Bool
 is_begin (say.Begin w) = true
 is_begin _ = false
 
@@ -145,10 +145,10 @@ done_step d m i l r h = subst (λ o. IfSome o DoneServed) (sym (session_is d m i
 
 -- WAITING
 
-record Waited (d : SetupData) (past : List Said) (bsp : ℕ) (gathered : Option ℕ) (is_ready : Bool) (expired : ℕ) : Type 0 where
-  took : (e : ℕ) → gathered ≡ Some e → HasSaid bsp (say.Gather e) past
-  counted : is_ready ≡ true → HasAll d bsp past
-  twice : expired ≡ 2 → HasSaid bsp (say.Expire 2) past
+pub record Waited (d : SetupData) (past : List Said) (bsp : ℕ) (gathered : Option ℕ) (is_ready : Bool) (expired : ℕ) : Type 0 where
+  pub took : (e : ℕ) → gathered ≡ Some e → HasSaid bsp (say.Gather e) past
+  pub counted : is_ready ≡ true → HasAll d bsp past
+  pub twice : expired ≡ 2 → HasSaid bsp (say.Expire 2) past
 
 abbrev pub HasWaitedIn : SetupData → List Said → Session → Type 0
 HasWaitedIn d past s = Waited d past s.bsp s.gathered s.is_ready s.expired
@@ -178,10 +178,13 @@ value_same x y e = ap (λ o. unwrap_or o 0) e
 now_by : (i bsp : ℕ) (l : Label) (past : List Said) → bsp ≡ i → HasSaid bsp l (past ++ (i, l) ∷ [])
 now_by i bsp l past e = subst (λ k. HasSaid k l (past ++ (i, l) ∷ [])) (sym e) (now i l past)
 
+never_twice : ◌≡◌ {A = ℕ} 0 2 → ⊥
+never_twice e = omega arith
+
 waited_after : (d : SetupData) (past : List Said) (m : Machine) (i : ℕ) (l : Label) → Rule d m i l → IfSome m.session (HasWaitedIn d past)
     → IfSome (session_after (is_over (place_of d m)) i l m.session) (HasWaitedIn d (past ++ (i, l) ∷ []))
 waited_after d past m i say.Elect r h =
-    record { took = λ e t. cc; counted = λ t. absurd (true≢false (sym t)); twice = λ t. omega arith }
+    record { took = λ e t. cc; counted = λ t. absurd (true≢false (sym t)); twice = λ t. absurd (never_twice t) }
 waited_after d past m i say.End r h = tt
 waited_after d past m i (say.Gather e) r h =
     with_rule m.session _ (HasWaitedIn d past) (HasWaitedIn d (past ++ (i, say.Gather e) ∷ [])) (gathers e)
