@@ -3,4 +3,8 @@ pub mod Changes
 pub mod Waves
 pub mod Sets
 pub mod Told
+pub mod Jobs
+pub mod Lists
+pub mod Working
+pub mod Once
 pub mod Lawful

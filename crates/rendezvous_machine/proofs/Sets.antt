@@ -240,7 +240,7 @@ fits d m i (say.Close n) r h = λ j.
 fits d m i (say.Begin w) r h = λ j. alike m.session (made_begun w) (member m j) (λ s. refl) (λ s. refl) (h j)
 fits d m i (say.Write c register width x S) r h =
     onward m (says (say.Write c register width x S)) c (record (member m c) { image = written S register width x (member m c).image }) (λ s. refl) (λ s. refl) (h c) h
-fits d m i (say.Start c k p a) r h = onward m (says (say.Start c k p a)) c (record (member m c) { job = given k p a }) (λ s. refl) (λ s. refl) (h c) h
+fits d m i (say.Start c k p a) r h = onward m (says (say.Start c k p a)) c (record (member m c) { job = Some (given k p a) }) (λ s. refl) (λ s. refl) (h c) h
 fits d m i (say.Run k x S) r h = onward m (hears (is_over (place_of d m)) (Ran i k x S)) i (worked d (x, S) (member m i)) (λ s. refl) (λ s. refl) (h i) h
 fits d m i (say.Collect c) r h = onward m (hears (is_over (place_of d m)) (Own (say.Collect c))) c (record (member m c) { job = None }) (λ s. refl) (λ s. refl) (h c) h
 fits d m i say.Done r h = λ j. finishing m.session _ (member m j) (λ s q. (q.1.2, q.1.0)) r.0 (h j)

@@ -255,7 +255,7 @@ told d past m i (say.Write c register width x S) r f h =
     one_told past m i c (say.Write c register width x S) (record (member m c) { image = written S register width x (member m c).image }) refl
     (λ t. later c say.Report past (i, say.Write c register width x S) refl (h c t)) h m.members refl
 told d past m i (say.Start c k p a) r f h =
-    one_told past m i c (say.Start c k p a) (record (member m c) { job = given k p a }) refl
+    one_told past m i c (say.Start c k p a) (record (member m c) { job = Some (given k p a) }) refl
     (λ t. later c say.Report past (i, say.Start c k p a) refl (h c t)) h m.members refl
 told d past m i (say.Run k x S) r f h =
     one_told past m i i (say.Run k x S) (worked d (x, S) (member m i)) refl (λ t. later i say.Report past (i, say.Run k x S) refl (h i t)) h m.members refl

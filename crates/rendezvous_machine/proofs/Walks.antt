@@ -16,11 +16,15 @@ pub rest_of : (d : SetupData) (m : Machine) (xs ys : List Said) → IsRun d m (x
 rest_of d m [] ys r = r
 rest_of d m (e ∷ xs) ys r = rest_of d (effect d m e.0 e.1) xs ys r.1
 
+pub after_both : (d : SetupData) (m : Machine) (xs ys : List Said) → machine_after d m (xs ++ ys) ≡ machine_after d (machine_after d m xs) ys
+after_both d m [] ys = refl
+after_both d m (e ∷ xs) ys = after_both d (effect d m e.0 e.1) xs ys
+
 pub either : {A : Type 0} (b : Bool) → (b ≡ true → A) → (b ≡ false → A) → A
 either true f g = f refl
 either false f g = g refl
 
-neither : (a b : Bool) → (a || b) ≡ false → (a ≡ false) × (b ≡ false)
+pub neither : (a b : Bool) → (a || b) ≡ false → (a ≡ false) × (b ≡ false)
 neither true b h = absurd (true≢false h)
 neither false b h = (refl, h)
 

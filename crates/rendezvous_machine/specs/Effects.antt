@@ -50,8 +50,8 @@ answered answer job = record job { done = Some answer }
 abbrev pub worked : SetupData → ℕ × Status → Member → Member
 worked d answer x = record x { image = image_run d x.job x.image; job = option_map (answered answer) x.job }
 
-abbrev pub given : ℕ → ℕ → ℕ → Option Job
-given j p a = Some (record { number = j; procedure = p; arg = a; done = None })
+abbrev pub given : ℕ → ℕ → ℕ → Job
+given j p a = record { number = j; procedure = p; arg = a; done = None }
 
 -- a processor with its place in the closed set, and out of all sets
 abbrev pub enclosed : Member → Member
@@ -131,7 +131,7 @@ effect d m i (say.Begin w) = with_session (made_begun w) m
 effect d m i (say.Write c register width x S) =
     saying (say.Write c register width x S)
     (with_member c (record (member m c) { image = written S register width x (member m c).image }) m)
-effect d m i (say.Start c j p a) = saying (say.Start c j p a) (with_job c (given j p a) m)
+effect d m i (say.Start c j p a) = saying (say.Start c j p a) (with_job c (Some (given j p a)) m)
 effect d m i (say.Run j result S) = hearing d (Ran i j result S) (with_member i (worked d (result, S) (member m i)) m)
 effect d m i (say.Collect c) = hearing d (Own (say.Collect c)) (with_job c None m)
 effect d m i say.Done = with_session made_done m

@@ -1,5 +1,5 @@
 -- What was said in a run, and in which session.
-use Rattle.std.specs.Prelude.{◌≡◌, ◌<◌, ◌≤◌, ℕ, ◌+◌, Bool, true, false, ◌||◌, List, [], ◌∷◌, ◌++◌}
+use Rattle.std.specs.Prelude.{◌≡◌, ◌<◌, ◌≤◌, ℕ, ◌+◌, Bool, true, false, ◌||◌, ◌&&◌, ◌==◌, List, [], ◌∷◌, ◌++◌}
 use Rattle.cpu_table.specs.Data.{SetupData}
 use Rattle.sync_words.specs.declared.label.Label.{Label}
 use Rattle.sync_words.specs.declared.label.Label.TheVariants as say
@@ -32,3 +32,11 @@ pub record HasAll (d : SetupData) (i : ℕ) (es : List Said) : Type 0 where
   pub enough : d.processors ≤ members + blocked
   pub gathered : HasSaid i (say.Gather blocked) es
   pub ready : HasSaid i (say.Ready members) es
+
+-- the processor ran the job with this number
+abbrev pub runs_job : ℕ → Label → Bool
+runs_job j (say.Run n result S) = n == j
+runs_job j _ = false
+
+abbrev pub is_run : ℕ → ℕ → Said → Bool
+is_run c j e = runs_job j e.1 && e.0 == c

@@ -1,5 +1,5 @@
 -- Runs: lists of actors and labels in which each label's rule holds in the state that the labels before it leave.
-use Rattle.std.specs.Prelude.{ℕ, ◌+◌, ◌==◌, Bool, if◌then◌else◌, List, [], ◌∷◌, Option, None}
+use Rattle.std.specs.Prelude.{ℕ, ◌+◌, ◌==◌, Bool, if◌then◌else◌, List, [], ◌∷◌, Option, Some, None}
 use Rattle.save_state_map.specs.Images.{ImageContents}
 use Rattle.cpu_regs.specs.Registers.{Registers, loaded}
 use Rattle.cpu_regs.specs.Entering.{saved}
@@ -50,7 +50,7 @@ by_own d i _ x = x
 abbrev pub resumed_by : SetupData → ℕ → ℕ → Label → Resumed → Resumed
 resumed_by d i actor (say.Write c register width value S) x =
     if c == i then record x { image = written S register width value x.image } else x
-resumed_by d i actor (say.Start c j p a) x = if c == i then record x { job = given j p a } else x
+resumed_by d i actor (say.Start c j p a) x = if c == i then record x { job = Some (given j p a) } else x
 resumed_by d i actor l x = if actor == i then by_own d i l x else x
 
 abbrev pub resumed_after : SetupData → ℕ → Resumed → List Said → Resumed
