@@ -21,5 +21,4 @@ pub use held::{Desks, Held};
 pub use laws::{courses, serving_lists, standing};
 pub use need::Need;
 pub use procedure::run_job;
-pub use seat::Seat;
 pub use server::Server;

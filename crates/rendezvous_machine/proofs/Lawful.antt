@@ -1,8 +1,6 @@
 -- The laws on runs from the beginning.
-use Rattle.std.proofs.Common.{◌≡◌, ◌≢◌, ◌<◌, ◌≤◌, ◌⊎◌, ℕ, zero, suc, ◌+◌, Bool, true, false, List, [], ◌∷◌, ◌++◌, length, zip, map, slice_index_or, IfSome, IsSomeAnd, Option, Some, None, is_some, refl, sym, ap, subst, inl, inr, ⊎_elim, ◌∙◌, true≢false, arith}
+use Rattle.std.proofs.Common.{◌≡◌, ◌≢◌, ◌<◌, ◌⊎◌, ℕ, zero, suc, Bool, true, false, List, [], ◌∷◌, ◌++◌, length, zip, map, slice_index_or, IfSome, IsSomeAnd, Option, Some, None, is_some, refl, sym, ap, subst, inl, inr, ⊎_elim, ◌∙◌, true≢false, arith}
 use Rattle.std.specs.Option.{option_map}
-use Rattle.smm_base.specs.declared.kinds.HandlerType.{HandlerType}
-use Rattle.smm_base.specs.declared.status.Status.{Status}
 use Rattle.save_state_map.specs.Images.{ImageContents}
 use Rattle.cpu_regs.specs.Registers.{Registers}
 use Rattle.cpu_table.specs.Data.{SetupData}
@@ -12,9 +10,9 @@ use Rattle.sync_words.specs.declared.label.Label.{Label}
 use Rattle.sync_words.specs.declared.label.Label.TheVariants as say
 use Rattle.sync_words.specs.declared.label.StartRefusal.{StartRefusal}
 use Rattle.handler_ops.specs.Serving.{Serving, ran}
-use Rattle.handler_ops.specs.Forms.{Program, Event, Own, Ran, Ends, Exactly, Says, IsWhole, IsPrefix}
+use Rattle.handler_ops.specs.Forms.{Event, Own, Ran, Ends, Says, IsPrefix}
 use Rattle.handler_ops.specs.Beginning.{walks_of, program_of}
-use Rattle.rendezvous_machine.specs.Machines.{Machine, Session, Member, Here, nobody, member, first_member, beginning, is_here, is_counted_phase}
+use Rattle.rendezvous_machine.specs.Machines.{Machine, Session, Member, nobody, member, first_member, beginning, is_here, is_counted_phase}
 use Rattle.rendezvous_machine.specs.Listed.{place_of, is_over, CanSay, first_serving}
 use Rattle.rendezvous_machine.specs.Refusals.{refusal}
 use Rattle.rendezvous_machine.specs.Rules.{Rule, MayClose, MayBegin}
@@ -23,7 +21,6 @@ use Rattle.rendezvous_machine.specs.Runs.{Said, IsRun, machine_after}
 use Rattle.rendezvous_machine.specs.Histories.{is_end, has_end, HasSaid, HasBegun, HasAll}
 use Rattle.rendezvous_machine.proofs.Walks.{front_of, rest_of, either, kept, kept_open, history}
 use Rattle.rendezvous_machine.proofs.Changes.{step_of, session_after, session_is}
-use Rattle.rendezvous_machine.proofs.Waves.{other_wave, one_session}
 use Rattle.rendezvous_machine.proofs.Sets.{FitsMember, FitsSession, AllFit, fits}
 use Rattle.rendezvous_machine.proofs.Told.{some_of, not_some, Begun, begun_step, DoneServed, done_step, HasWaitedIn, waited_step, AllTold, told}
 

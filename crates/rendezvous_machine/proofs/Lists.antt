@@ -1,6 +1,5 @@
 -- The serving list of the session that there is: a place stands for it, and the jobs at that place are those of the processors.
-use Rattle.std.proofs.Common.{◌≡◌, ◌≢◌, ◌<◌, ◌≤◌, ◌↔◌, ◌⊎◌, ℕ, zero, suc, ◌+◌, Bool, true, false, List, [], ◌∷◌, ◌++◌, length, map, replicate, slice_index_or, slice_set, IsSomeAnd, Option, Some, None, is_some, refl, sym, ap, subst, inl, inr, ⊎_elim, ◌∙◌, true≢false, arith, get_or-set_same, get_or-set_other, length-set}
-use Rattle.std.specs.Option.{option_map}
+use Rattle.std.proofs.Common.{◌≡◌, ◌≢◌, ◌<◌, ◌≤◌, ◌↔◌, ◌⊎◌, ℕ, Bool, true, false, List, [], ◌∷◌, ◌++◌, length, slice_index_or, slice_set, IsSomeAnd, Option, Some, None, refl, sym, ap, subst, ⊎_elim, ◌∙◌, true≢false, arith, get_or-set_same, get_or-set_other, length-set}
 use Rattle.std.proofs.lemmas.Bool.{cases_eq}
 use Rattle.smm_base.specs.declared.kinds.HandlerType.{HandlerType}
 use Rattle.smm_base.specs.declared.status.Status.{Status}
@@ -10,15 +9,14 @@ use Rattle.sync_words.specs.declared.label.Label.TheVariants as say
 use Rattle.handler_ops.specs.declared.desk.Job.{Job}
 use Rattle.handler_ops.specs.declared.seat.Seat.{Seat}
 use Rattle.handler_ops.specs.declared.seat.Seat.TheVariants.{Free, Open}
-use Rattle.handler_ops.specs.Serving.{Serving, seat, run_at, ran, HasOpen}
+use Rattle.handler_ops.specs.Serving.{Serving, seat, run_at, HasOpen}
 use Rattle.handler_ops.specs.Forms.{Program, Event, Own, Ran, IsWhole, IsPrefix}
 use Rattle.handler_ops.specs.Beginning.{program_of, walks_of}
 use Rattle.handler_ops.specs.Places.{OpenWalk, Begun, Place, HasMore, Accepts, IsOver, next, at_first}
 use Rattle.handler_ops.specs.Stands.{StandsFor, Follows}
 use Rattle.handler_ops.specs.Course.{after_all}
 use Rattle.rendezvous_machine.specs.Machines.{Machine, Session, member}
-use Rattle.rendezvous_machine.specs.Listed.{first_serving, place_by, place_in, place_of, nothing_left, is_over, grown, grown_unless}
-use Rattle.rendezvous_machine.proofs.Walks.{either}
+use Rattle.rendezvous_machine.specs.Listed.{first_serving, place_by, nothing_left, is_over, grown, grown_unless}
 use Rattle.rendezvous_machine.proofs.Jobs.{IsStart, JobsBy, step_jobs}
 
 -- what is known of serving lists in general

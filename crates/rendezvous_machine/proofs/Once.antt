@@ -1,7 +1,6 @@
 -- A job that was given is run once before the session ends, with the result of its procedure.
-use Rattle.std.proofs.Common.{◌≡◌, ◌≢◌, ◌<◌, ◌≤◌, ◌⊎◌, ℕ, zero, suc, ◌+◌, Bool, true, false, ◌&&◌, ◌==◌, cond, List, [], ◌∷◌, ◌++◌, length, map, zip, count_by, slice_index_or, slice_set, IsSomeAnd, IsSome, is_some, Option, Some, None, refl, sym, ap, subst, inl, inr, ⊎_elim, ◌∙◌, true≢false, arith, get_or-set_same, eq-eqb, ne_eqb, zero-add}
+use Rattle.std.proofs.Common.{◌≡◌, ◌≢◌, ◌<◌, ◌⊎◌, ℕ, zero, suc, ◌+◌, Bool, true, false, ◌&&◌, ◌==◌, cond, List, [], ◌∷◌, ◌++◌, length, map, zip, count_by, slice_index_or, IsSomeAnd, IsSome, is_some, Option, Some, None, refl, sym, ap, subst, inl, inr, ⊎_elim, ◌∙◌, true≢false, arith, get_or-set_same, eq-eqb, ne_eqb, zero-add}
 use Rattle.std.proofs.lemmas.List.Sums.{sum_by-cons}
-use Rattle.std.specs.Option.{option_map}
 use Rattle.std.proofs.lemmas.Bool.{cases_eq}
 use Rattle.smm_base.specs.declared.status.Status.{Status}
 use Rattle.save_state_map.specs.Images.{ImageContents}
@@ -12,14 +11,14 @@ use Rattle.sync_words.specs.declared.label.Label.TheVariants as say
 use Rattle.handler_ops.specs.declared.desk.Job.{Job}
 use Rattle.handler_ops.specs.Procedures.{job_on}
 use Rattle.rendezvous_machine.specs.Machines.{Machine, Member, nobody, member, first_member, beginning}
-use Rattle.rendezvous_machine.specs.Rules.{Rule, Answers, HasFinished}
+use Rattle.rendezvous_machine.specs.Rules.{Rule}
 use Rattle.rendezvous_machine.specs.Effects.{effect, worked, given}
 use Rattle.rendezvous_machine.specs.Runs.{Said, IsRun, machine_after}
-use Rattle.rendezvous_machine.specs.Histories.{is_end, has_end, runs_job, is_run}
-use Rattle.rendezvous_machine.proofs.Walks.{front_of, rest_of, either, neither, kept, kept_open}
-use Rattle.rendezvous_machine.proofs.Sets.{set_at, set_elsewhere}
-use Rattle.rendezvous_machine.proofs.Lists.{Standing, IsOpenJob, NoJobs, JobsFit, jobs_of}
-use Rattle.rendezvous_machine.proofs.Working.{is_work, jobs_same, fit_step, fit_any, fit_start, start_in, none_at_end, no_open, finished_open, set_other, open_of, same_length}
+use Rattle.rendezvous_machine.specs.Histories.{is_end, has_end, is_run}
+use Rattle.rendezvous_machine.proofs.Walks.{front_of, rest_of, neither, kept, kept_open}
+use Rattle.rendezvous_machine.proofs.Sets.{set_elsewhere}
+use Rattle.rendezvous_machine.proofs.Lists.{Standing, IsOpenJob, JobsFit}
+use Rattle.rendezvous_machine.proofs.Working.{jobs_same, fit_step, fit_any, fit_start, start_in, none_at_end, finished_open, set_other, open_of, same_length}
 
 -- the job was run, or another one was given
 abbrev IsPast : ℕ → ℕ → Machine → Type 0

@@ -1,11 +1,10 @@
 -- The closed set: who is in it, and that nobody is there between two sessions.
-use Rattle.std.proofs.Common.{◌≡◌, ◌≢◌, ◌<◌, ◌⊎◌, ℕ, zero, suc, ◌+◌, Bool, true, false, List, [], ◌∷◌, map, length, slice_index_or, slice_set, IsSomeAnd, Option, Some, None, refl, sym, ap, subst, subst₂, inl, inr, ⊎_elim, ◌∙◌, true≢false, arith}
+use Rattle.std.proofs.Common.{◌≡◌, ◌≢◌, ◌<◌, ◌⊎◌, ℕ, zero, suc, Bool, true, false, List, [], ◌∷◌, map, length, slice_index_or, slice_set, IsSomeAnd, Option, Some, None, refl, sym, ap, subst, subst₂, inl, inr, ⊎_elim, ◌∙◌, true≢false, arith}
 use Rattle.std.specs.Option.{option_map}
-use Rattle.std.proofs.lemmas.Bool.{cases_eq}
 use Rattle.cpu_table.specs.Data.{SetupData}
 use Rattle.sync_words.specs.declared.label.Label.{Label}
 use Rattle.sync_words.specs.declared.label.Label.TheVariants as say
-use Rattle.rendezvous_machine.specs.Machines.{Machine, Session, Member, Phase, Out, In, Counted, Here, Gone, Off, nobody, member, first_member, beginning, is_here, is_counted_phase, is_counted, IsClosed, AllDeparted}
+use Rattle.rendezvous_machine.specs.Machines.{Machine, Session, Member, Phase, Out, In, Counted, Here, Gone, Off, nobody, member, is_here, is_counted_phase}
 use Rattle.handler_ops.specs.Forms.{Own, Ran}
 use Rattle.rendezvous_machine.specs.Listed.{place_of, is_over}
 use Rattle.rendezvous_machine.specs.Rules.{Rule}

@@ -1,17 +1,17 @@
 -- What was said before: that serving began, that the boot processor waited, that a processor reported.
-use Rattle.std.proofs.Common.{◌≡◌, ◌≢◌, ◌<◌, ◌≤◌, ◌⊎◌, ℕ, zero, suc, ◌+◌, Bool, true, false, List, [], ◌∷◌, ◌++◌, length, map, slice_index_or, slice_set, IfSome, IsSomeAnd, Option, Some, None, is_some, unwrap_or, refl, sym, ap, subst, inl, inr, ◌∙◌, true≢false, arith}
+use Rattle.std.proofs.Common.{◌≡◌, ℕ, Bool, true, false, List, [], ◌∷◌, ◌++◌, slice_index_or, slice_set, IfSome, IsSomeAnd, Option, Some, None, is_some, unwrap_or, refl, sym, ap, subst, ◌∙◌, true≢false, arith}
 use Rattle.std.specs.Option.{option_map}
 use Rattle.cpu_table.specs.Data.{SetupData}
 use Rattle.sync_words.specs.declared.label.Label.{Label}
 use Rattle.sync_words.specs.declared.label.Label.TheVariants as say
 use Rattle.handler_ops.specs.Forms.{Event, Own, Ran}
 use Rattle.rendezvous_machine.specs.Machines.{Machine, Session, Member, Phase, Out, In, Counted, Here, Gone, Off, nobody, member, is_here}
-use Rattle.rendezvous_machine.specs.Listed.{place_of, is_over, grown, grown_unless, IsServed}
+use Rattle.rendezvous_machine.specs.Listed.{place_of, is_over, grown_unless}
 use Rattle.rendezvous_machine.specs.Rules.{Rule}
 use Rattle.rendezvous_machine.specs.Services.{written}
 use Rattle.rendezvous_machine.specs.Effects.{effect, serves, gathers, made_ready, has_expired, made_begun, made_done, enclosed, entered, resumed, worked, given}
 use Rattle.rendezvous_machine.specs.Runs.{Said}
-use Rattle.rendezvous_machine.specs.Histories.{is_end, has_end, HasSaid, HasAll}
+use Rattle.rendezvous_machine.specs.Histories.{is_end, HasSaid, HasAll}
 use Rattle.rendezvous_machine.proofs.Walks.{later, now}
 use Rattle.rendezvous_machine.proofs.Changes.{step_of, session_after, session_is, with_rule, without_rule}
 use Rattle.rendezvous_machine.proofs.Sets.{AllFit, fits, set_at, mapped}

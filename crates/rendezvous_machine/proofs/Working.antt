@@ -1,5 +1,5 @@
 -- Every label keeps that a place stands for the serving list, with the processors' jobs.
-use Rattle.std.proofs.Common.{◌≡◌, ◌≢◌, ◌<◌, ◌≤◌, ◌⊎◌, ℕ, zero, suc, ◌+◌, Bool, true, false, List, [], ◌∷◌, length, replicate, map, zip, slice_index_or, slice_set, IsSomeAnd, Option, Some, None, refl, sym, ap, subst, inl, inr, ⊎_elim, ◌∙◌, true≢false, arith, get_or-set_other, length-set}
+use Rattle.std.proofs.Common.{◌≡◌, ◌≢◌, ◌<◌, ◌⊎◌, ℕ, zero, suc, Bool, true, false, List, [], ◌∷◌, length, replicate, slice_index_or, slice_set, IsSomeAnd, Option, Some, None, refl, sym, ap, subst, inl, inr, ⊎_elim, ◌∙◌, true≢false, arith, get_or-set_other, length-set}
 use Rattle.std.proofs.lemmas.List.{length-map}
 use Rattle.std.specs.Option.{option_map}
 use Rattle.smm_base.specs.declared.status.Status.{Status}
@@ -9,14 +9,14 @@ use Rattle.sync_words.specs.declared.label.Label.TheVariants as say
 use Rattle.handler_ops.specs.declared.desk.Job.{Job}
 use Rattle.handler_ops.specs.declared.seat.Seat.TheVariants.{Free}
 use Rattle.handler_ops.specs.Serving.{Serving}
-use Rattle.handler_ops.specs.Forms.{Event, Own, Ran}
+use Rattle.handler_ops.specs.Forms.{Own, Ran}
 use Rattle.rendezvous_machine.specs.Machines.{Machine, Session, Member, Gone, nobody, member}
 use Rattle.rendezvous_machine.specs.Listed.{first_serving, place_by, place_in, place_of, is_over, grown_unless, CanSay, IsServed}
 use Rattle.rendezvous_machine.specs.Services.{written}
 use Rattle.rendezvous_machine.specs.Rules.{Rule, IsLeast, Answers}
 use Rattle.rendezvous_machine.specs.Effects.{effect, with_member, entered, resumed, worked, answered, given, serves, gathers, made_ready, has_expired, made_closed, made_begun, made_done, says, hears, enclosed, cleared}
 use Rattle.rendezvous_machine.specs.Histories.{is_end}
-use Rattle.rendezvous_machine.proofs.Changes.{step_of, session_after, session_is}
+use Rattle.rendezvous_machine.proofs.Changes.{session_after, session_is}
 use Rattle.rendezvous_machine.proofs.Sets.{set_at, set_elsewhere, mapped}
 use Rattle.rendezvous_machine.proofs.Lists.{Standing, Jobs, IsOpenJob, NoJobs, FitsList, FitsJobs, JobsFit, jobs_of, refit, OverAt, GivenTo, AfterLabel, said_fits, plain_seats, ran_fits, collect_fits, start_fits, start_is, Starting, begun_fits, served_fits, done_fits, none_left}
 

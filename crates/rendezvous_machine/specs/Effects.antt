@@ -1,5 +1,5 @@
 -- What a label changes.
-use Rattle.std.specs.Prelude.{ℕ, ◌+◌, Bool, true, false, if◌then◌else◌, List, [], ◌∷◌, map, slice_set, Option, Some, None}
+use Rattle.std.specs.Prelude.{ℕ, ◌+◌, Bool, true, false, [], ◌∷◌, map, slice_set, Option, Some, None}
 use Rattle.std.specs.Option.{option_map}
 use Rattle.smm_base.specs.declared.status.Status.{Status}
 use Rattle.save_state_map.specs.Images.{ImageContents}

@@ -1,8 +1,7 @@
 -- The state of the rendezvous machine: phases, sets, one job for each processor, and one session. It has no words, semaphores,
 -- desks or positions.
-use Rattle.std.specs.Prelude.{◌≡◌, ◌≢◌, ◌<◌, ◌⊎◌, ℕ, Bool, true, false, List, [], length, map, zip, slice_index_or, slice_set, Option, Some, None, IsSome, IsSomeAnd}
+use Rattle.std.specs.Prelude.{◌≡◌, ◌≢◌, ◌<◌, ◌⊎◌, ℕ, Bool, true, false, List, [], length, map, zip, slice_index_or, Option, None, IsSome, IsSomeAnd}
 use Rattle.std.specs.List.{count_by}
-use Rattle.std.specs.Option.{option_map}
 use Rattle.smm_base.specs.declared.kinds.MapKind.TheVariants.{Intel64}
 use Rattle.save_state_map.specs.Images.{ImageContents}
 use Rattle.cpu_regs.specs.Registers.{Registers, loaded}

@@ -1,5 +1,5 @@
 -- When an actor may say a label.
-use Rattle.std.specs.Prelude.{◌≡◌, ◌≢◌, ◌<◌, ◌≤◌, ◌⊎◌, ℕ, ◌+◌, true, false, length, Option, Some, None, IsSome, IsSomeAnd}
+use Rattle.std.specs.Prelude.{◌≡◌, ◌≢◌, ◌<◌, ◌≤◌, ◌⊎◌, ℕ, ◌+◌, true, false, length, Some, None, IsSome, IsSomeAnd}
 use Rattle.cpu_regs.specs.Entering.{after}
 use Rattle.cpu_table.specs.Data.{SetupData}
 use Rattle.cpu_table.specs.declared.setup.Mode.{Mode}
@@ -7,7 +7,6 @@ use Rattle.cpu_table.specs.declared.setup.Mode.TheVariants.{Traditional, Relaxed
 use Rattle.smm_base.specs.declared.status.Status.{Status}
 use Rattle.sync_words.specs.declared.label.Label.{Label}
 use Rattle.sync_words.specs.declared.label.Label.TheVariants as say
-use Rattle.handler_ops.specs.declared.desk.Job.{Job}
 use Rattle.handler_ops.specs.Procedures.{job_on}
 use Rattle.rendezvous_machine.specs.Platforms.{blocked_in, MayLead}
 use Rattle.rendezvous_machine.specs.Machines.{Machine, Session, Member, Out, In, Counted, Here, Gone, member, IsPhase, count_of, AllReported, AllReleased, AllDeparted, AllCollected, IsBsp, IsLed, IsClosed, IsAtWork, HasWaited}
