@@ -1,5 +1,5 @@
 -- Each step of the chipset keeps what holds, and the machine allows its label.
-use Rattle.std.proofs.Common.{ℕ, ◌+◌, ◌-◌, ◌%◌, ◌≡◌, ◌≢◌, ◌<◌, ◌≤◌, arith, Bool, List, length, slice_index_or, refl, ⊎_elim}
+use Rattle.std.proofs.Common.{ℕ, ◌+◌, ◌-◌, ◌%◌, ◌≡◌, ◌≢◌, ◌<◌, ◌≤◌, arith, Bool, length, slice_index_or, refl, ⊎_elim}
 use Rattle.std.proofs.lemmas.Bool.{cases_eq, cases_lt, eq-eqb, ne_eqb, le-leb, lt-leb, le-ltb, lt-ltb}
 use Rattle.cpu_table.specs.Data.{SetupData}
 use Rattle.cpu_table.specs.declared.setup.Mode.{Mode}
@@ -19,7 +19,7 @@ announce_blocked d mode elects s x g f = (
   refl,
   ((refl, f.waves), refl, refl),
   fine d mode elects s AnnouncingWave x (record g { except = blocked_in d.waves (g.waves + 1) })
-  (record { stands = f.stands; visits = f.visits; serving = f.serving; waves = f.waves; signal = f.signal }),
+      (record { stands = f.stands; visits = f.visits; serving = f.serving; waves = f.waves; signal = f.signal }),
 )
 
 announce_wave : (d : SetupData) (mode : Mode) (elects : Bool) (s : Stage) (x : Knowledge) (g : Signals) → At d mode elects 1 s AnnouncingWave x g

@@ -1,19 +1,16 @@
 -- What holds of the world and the machine of one processor, and that a step keeps it.
-use Rattle.std.proofs.Common.{ℕ, ◌+◌, ◌*◌, ◌≡◌, ◌<◌, ◌≤◌, Bool, true, false, List, [], ◌∷◌, length, Option, Some, None, refl}
-use Rattle.save_state_map.specs.Images.{ImageContents}
+use Rattle.std.proofs.Common.{ℕ, ◌+◌, ◌*◌, ◌≡◌, ◌<◌, ◌≤◌, Bool, true, List, [], ◌∷◌, length, Option, Some, None, refl}
 use Rattle.cpu_table.specs.Data.{SetupData}
 use Rattle.cpu_table.specs.declared.setup.Mode.{Mode}
 use Rattle.cpu_table.specs.declared.setup.Mode.TheVariants.{Traditional, Relaxed}
 use Rattle.cpu_table.specs.declared.handlers.OpDef.{OpDef}
 use Rattle.cpu_table.specs.Ranges.{op_fits}
 use Rattle.std.specs.List.{list_all}
-use Rattle.sync_words.specs.declared.label.Label.{Label}
 use Rattle.sync_words.specs.declared.label.Label.TheVariants as say
 use Rattle.handler_registry.specs.Registrations.{Registrations}
 use Rattle.smram_pool.specs.State.{PoolState}
 use Rattle.handler_ops.specs.declared.row.Row.{Row as Told}
 use Rattle.handler_ops.specs.declared.row.Row.TheVariants as told
-use Rattle.handler_ops.specs.Forms.{Event}
 use Rattle.handler_ops.specs.Beginning.{at_begin, program_of, walks_of}
 use Rattle.handler_ops.specs.Places.{Call, OpenWalk, Begun, First, Started, Awaited, Place, at_first, IsOver}
 use Rattle.handler_ops.specs.Stands.{Leads}
@@ -26,7 +23,7 @@ use Rattle.rendezvous_core.specs.Worlds.{World, step}
 use Rattle.rendezvous_machine.specs.Machines.{Machine}
 use Rattle.rendezvous_machine.specs.Rules.{Rule}
 use Rattle.rendezvous_machine.specs.Effects.{effect}
-use Rattle.rendezvous_laws.proofs.Stages.{one, held_at, Stage, AwaitingSmi, SwitchingOff, LookingAtSource, LookingInside, CountingIn, BeingElected, MarkingInside, TakingSource, LookingAtExcept, AwaitingOthers, MarkingInsync, LockingCounter, BeginningToServe, AtHandlers, LeavingInside, GivingBsp, LeavingInsync, UnlockingCounter, AwaitingEnd, ClearingSignal, Away, Herald, AnnouncingBlocked, AnnouncingWave, Raising, Watching, AwaitingServed, RaisingOff, Silenced, Knowledge, Signals, world_at, machine_at}
+use Rattle.rendezvous_laws.proofs.Stages.{one, held_at, Stage, AwaitingSmi, SwitchingOff, LookingAtExcept, AwaitingOthers, MarkingInsync, LockingCounter, BeginningToServe, AtHandlers, LeavingInside, GivingBsp, LeavingInsync, UnlockingCounter, Away, Herald, AnnouncingBlocked, AnnouncingWave, RaisingOff, Silenced, Knowledge, Signals, world_at, machine_at}
 
 -- VISITS
 

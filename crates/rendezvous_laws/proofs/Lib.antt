@@ -8,3 +8,4 @@ pub mod Servings
 pub mod Visits
 pub mod Heralds
 pub mod Runs
+pub mod Resumes

@@ -1,5 +1,5 @@
 -- The rows of serving with one processor: each of them looks, and its label is as the machine wants it.
-use Rattle.std.proofs.Common.{◌≡◌, ◌≤◌, ◌⊎◌, inl, inr, ℕ, zero, suc, ◌+◌, arith, Bool, true, false, List, [], ◌∷◌, length, Option, Some, None, Result, Ok, Err, refl, sym, ap, ◌∙◌}
+use Rattle.std.proofs.Common.{◌≡◌, ◌≤◌, ◌⊎◌, inl, inr, ℕ, zero, suc, arith, Bool, true, false, List, [], ◌∷◌, length, Option, Some, None, Result, Ok, Err, refl, sym, ap}
 use Rattle.std.proofs.lemmas.Bool.{le-ltb, and_parts}
 use Rattle.std.specs.Prelude.{nat_le, ◌&&◌, slice_index_or}
 use Rattle.smm_base.specs.declared.kinds.HandlerType.{HandlerType}
@@ -10,7 +10,6 @@ use Rattle.smm_base.specs.declared.status.Status.TheVariants.{InvalidParameter}
 use Rattle.save_state_map.specs.Images.{ImageContents}
 use Rattle.cpu_table.specs.Data.{SetupData}
 use Rattle.cpu_table.specs.declared.setup.Mode.{Mode}
-use Rattle.cpu_table.specs.declared.handlers.Operand.{Operand}
 use Rattle.cpu_table.specs.declared.handlers.OpDef.{OpDef}
 use Rattle.cpu_table.specs.declared.handlers.OpDef.TheVariants as op
 use Rattle.sync_words.specs.declared.label.StartRefusal.{StartRefusal}
@@ -25,14 +24,14 @@ use Rattle.handler_ops.specs.declared.row.Row.TheVariants as row
 use Rattle.handler_ops.specs.declared.seat.Seat.{Seat}
 use Rattle.handler_ops.specs.declared.seat.Seat.TheVariants.{Free, Open, Done}
 use Rattle.handler_ops.specs.declared.token.Token.{Token}
-use Rattle.handler_ops.specs.Serving.{Serving, number, seat, owner, state_of, token_of, IsFree}
+use Rattle.handler_ops.specs.Serving.{Serving, number, owner, state_of, IsFree}
 use Rattle.handler_ops.specs.Operations.{register_of, procedure_place}
-use Rattle.handler_ops.specs.Course.{Due, Nothing, Saying, Awaiting, Doing, is_held, reach, has_job, read_of, write_of, shown_value, read_label, write_label, blank, first_cause, alloc_label, register_label, open_label, label_of}
+use Rattle.handler_ops.specs.Course.{Due, Nothing, Saying, Awaiting, Doing, is_held, read_of, write_of, shown_value, alloc_label, register_label, open_label, label_of}
 use Rattle.handler_ops.specs.Conditions.{IsSound}
-use Rattle.handler_ops.specs.NextRow.{desk_row, reading_row, writing_row, start_row, starting_row, checking_row, waiting_row, operation_row, due_row}
+use Rattle.handler_ops.specs.NextRow.{reading_row, writing_row, starting_row, checking_row, waiting_row, operation_row, due_row}
 use Rattle.handler_ops.specs.Told.{step_as}
 use Rattle.rendezvous_machine.specs.Machines.{Machine}
-use Rattle.rendezvous_machine.specs.Refusals.{or_else, later_cause, cause_for, refusal_of, refusal_due}
+use Rattle.rendezvous_machine.specs.Refusals.{cause_for, refusal_of, refusal_due}
 use Rattle.rendezvous_machine.specs.Services.{written}
 use Rattle.rendezvous_laws.proofs.Stages.{one, held_at}
 use Rattle.rendezvous_laws.proofs.Holds.{setting_one, IsLook, IsOp}

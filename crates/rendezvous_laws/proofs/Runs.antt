@@ -1,5 +1,5 @@
 -- The labels of every schedule on a platform of one processor are a run of the machine.
-use Rattle.std.proofs.Common.{ℕ, zero, suc, ◌≡◌, ◌<◌, arith, Bool, true, false, List, [], ◌∷◌, length, Option, Some, None, refl, sym, ap, subst, ◌∙◌}
+use Rattle.std.proofs.Common.{ℕ, zero, suc, ◌≡◌, ◌<◌, arith, Bool, true, false, List, [], ◌∷◌, length, Some, refl, sym, ap, subst}
 use Rattle.std.proofs.lemmas.Bool.{and_parts, ltb-true, leb-true}
 use Rattle.std.specs.Prelude.{nat_le}
 use Rattle.std.specs.List.{list_all}
@@ -11,7 +11,6 @@ use Rattle.cpu_table.specs.Data.{SetupData, data_of}
 use Rattle.cpu_table.specs.declared.setup.Setup.{Setup}
 use Rattle.cpu_table.specs.Ranges.{is_between, policy_fits, wave_fits, handlers_fit}
 use Rattle.cpu_table.specs.declared.setup.Mode.{Mode}
-use Rattle.sync_words.specs.declared.event.Event.{Event}
 use Rattle.sync_words.specs.declared.label.Label.{Label}
 use Rattle.sync_words.specs.declared.label.Label.TheVariants as say
 use Rattle.handler_ops.specs.declared.row.Row.TheVariants as told
@@ -23,7 +22,7 @@ use Rattle.rendezvous_machine.specs.Machines.{Machine, beginning, member}
 use Rattle.rendezvous_machine.specs.Rules.{Rule}
 use Rattle.rendezvous_machine.specs.Effects.{effect}
 use Rattle.rendezvous_machine.specs.Runs.{Said, IsRun, machine_after}
-use Rattle.rendezvous_laws.proofs.Stages.{policy_of, one, Stage, AwaitingSmi, Herald, AnnouncingBlocked, Knowledge, Signals, world_at, machine_at}
+use Rattle.rendezvous_laws.proofs.Stages.{policy_of, one, Stage, AwaitingSmi, Herald, AnnouncingBlocked, Knowledge, Signals, world_at}
 use Rattle.rendezvous_laws.proofs.Holds.{Holds, IsFine, Kept, KeptBy, At, fine}
 use Rattle.rendezvous_laws.proofs.Visits.{processor_kept}
 use Rattle.rendezvous_laws.proofs.Heralds.{chipset_kept}
@@ -132,7 +131,7 @@ first_fine d mode false registers image visits waves =
 pub record IsReplayed (d : SetupData) (registers : Registers) (image : ImageContents) (schedule : List ℕ) : Type 0 where
   pub run : IsRun d (beginning d (registers ∷ []) (image ∷ [])) (labels (replay_events d (registers ∷ []) (image ∷ []) schedule))
   pub after : last_image (replay_world d (registers ∷ []) (image ∷ []) schedule) 0
-    ≡ Some (member (machine_after d (beginning d (registers ∷ []) (image ∷ [])) (labels (replay_events d (registers ∷ []) (image ∷ []) schedule))) 0).last
+      ≡ Some (member (machine_after d (beginning d (registers ∷ []) (image ∷ [])) (labels (replay_events d (registers ∷ []) (image ∷ []) schedule))) 0).last
 
 one_replayed : (d : SetupData) (mode : Mode) (elects : Bool) (registers : Registers) (image : ImageContents) (schedule : List ℕ) → handlers_fit d.handlers ≡ true
     → 0 < d.visits → 0 < length d.waves → IsReplayed (one d mode elects) registers image schedule

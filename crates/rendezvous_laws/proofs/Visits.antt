@@ -1,5 +1,5 @@
 -- Each step of the processor outside of serving keeps what holds, and the machine allows its label.
-use Rattle.std.proofs.Common.{ℕ, zero, suc, ◌+◌, ◌-◌, ◌≡◌, ◌≢◌, ◌<◌, ◌≤◌, arith, Bool, true, false, List, [], ◌∷◌, Option, Some, None, refl, sym, ap, subst, ⊎_elim, inl, inr}
+use Rattle.std.proofs.Common.{ℕ, zero, suc, ◌+◌, ◌-◌, ◌≡◌, ◌≢◌, ◌<◌, ◌≤◌, arith, Bool, true, false, refl, sym, ap, ⊎_elim, inl, inr}
 use Rattle.std.proofs.lemmas.Bool.{true≢false, cases_eq, cases_lt, eq-eqb, ne_eqb, le-leb, lt-leb, le-ltb}
 use Rattle.cpu_table.specs.Data.{SetupData}
 use Rattle.cpu_table.specs.declared.setup.Mode.{Mode}
@@ -7,7 +7,7 @@ use Rattle.cpu_table.specs.declared.setup.Mode.TheVariants.{Traditional, Relaxed
 use Rattle.cpu_regs.specs.Registers.{loaded}
 use Rattle.cpu_regs.specs.Entering.{saved}
 use Rattle.rendezvous_machine.specs.Platforms.{cause_of}
-use Rattle.rendezvous_laws.proofs.Stages.{Stage, AwaitingSmi, SwitchingOff, LookingAtSource, LookingInside, CountingIn, BeingElected, MarkingInside, TakingSource, LookingAtExcept, AwaitingOthers, MarkingInsync, LockingCounter, BeginningToServe, AtHandlers, LeavingInside, GivingBsp, LeavingInsync, UnlockingCounter, AwaitingEnd, ClearingSignal, Away, Herald, Knowledge, Signals, world_at, machine_at}
+use Rattle.rendezvous_laws.proofs.Stages.{Stage, AwaitingSmi, SwitchingOff, LookingAtSource, LookingInside, CountingIn, BeingElected, MarkingInside, TakingSource, LookingAtExcept, AwaitingOthers, MarkingInsync, LockingCounter, BeginningToServe, AtHandlers, LeavingInside, GivingBsp, LeavingInsync, UnlockingCounter, AwaitingEnd, ClearingSignal, Away, Herald, Knowledge, Signals, machine_at}
 use Rattle.rendezvous_machine.specs.Machines.{AllCollected}
 use Rattle.sync_words.specs.declared.label.Label.TheVariants as say
 use Rattle.handler_ops.specs.declared.row.Row.TheVariants as told
@@ -15,7 +15,7 @@ use Rattle.handler_ops.specs.Beginning.{at_begin, program_of, walks_of}
 use Rattle.handler_ops.specs.Places.{Place}
 use Rattle.handler_ops.specs.Course.{after_all}
 use Rattle.handler_ops.specs.Conditions.{beginning}
-use Rattle.rendezvous_laws.proofs.Holds.{alone, first_place, IsBeginning, Rests, HasServed, SignalFits, Holds, At, fine}
+use Rattle.rendezvous_laws.proofs.Holds.{alone, first_place, IsBeginning, Rests, HasServed, SignalFits, At, fine}
 use Rattle.rendezvous_laws.proofs.Places.{leads_after, is_whole}
 use Rattle.rendezvous_laws.proofs.Servings.{begin_to_serve, serve}
 use Rattle.cpu_table.specs.Ranges.{handlers_fit}
