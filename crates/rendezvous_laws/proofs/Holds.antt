@@ -18,11 +18,9 @@ use Rattle.handler_ops.specs.Course.{Setting, Course, is_held}
 use Rattle.handler_ops.specs.NextRow.{row_of}
 use Rattle.handler_ops.specs.Conditions.{IsSound, beginning}
 use Rattle.rendezvous_core.specs.declared.stepped.Stepped.{Stepped}
-use Rattle.rendezvous_core.specs.declared.stepped.Stepped.TheVariants as stepped
 use Rattle.rendezvous_core.specs.Worlds.{World, step}
 use Rattle.rendezvous_machine.specs.Machines.{Machine}
-use Rattle.rendezvous_machine.specs.Rules.{Rule}
-use Rattle.rendezvous_machine.specs.Effects.{effect}
+use Rattle.rendezvous_laws.proofs.Simulations as simulation
 use Rattle.rendezvous_laws.proofs.Stages.{one, held_at, Stage, AwaitingSmi, SwitchingOff, LookingAtExcept, AwaitingOthers, MarkingInsync, LockingCounter, BeginningToServe, AtHandlers, LeavingInside, GivingBsp, LeavingInsync, UnlockingCounter, Away, Herald, AnnouncingBlocked, AnnouncingWave, RaisingOff, Silenced, Knowledge, Signals, world_at, machine_at}
 
 -- VISITS
@@ -185,14 +183,8 @@ pub record IsFine (d : SetupData) (mode : Mode) (elects : Bool) (w : World) (m :
   pub holds : Holds d mode elects stage herald knowledge signals
 
 -- a step keeps that, and its label is one that the machine allows
-abbrev pub KeptBy : SetupData → Mode → Bool → Machine → ℕ → Stepped → World → Type 0
-KeptBy d mode elects m i (stepped.Event e) w =
-    (e.actor ≡ i) × Rule (one d mode elects) m i e.label × IsFine d mode elects w (effect (one d mode elects) m i e.label)
-KeptBy d mode elects m i (stepped.Waiting found) w = IsFine d mode elects w m
-KeptBy d mode elects m i stepped.Off w = IsFine d mode elects w m
-
 abbrev pub Kept : SetupData → Mode → Bool → Machine → ℕ → Stepped × World → Type 0
-Kept d mode elects m i o = KeptBy d mode elects m i o.0 o.1
+Kept d mode elects m i o = simulation.Kept (one d mode elects) (λ w n. IsFine d mode elects w n) m i o
 
 abbrev pub At : SetupData → Mode → Bool → ℕ → Stage → Herald → Knowledge → Signals → Type 0
 At d mode elects i s h x g =

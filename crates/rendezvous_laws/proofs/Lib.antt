@@ -1,4 +1,5 @@
 pub mod Stages
+pub mod Simulations
 pub mod Holds
 pub mod Places
 pub mod Fits

@@ -11,19 +11,14 @@ use Rattle.cpu_table.specs.Data.{SetupData, data_of}
 use Rattle.cpu_table.specs.declared.setup.Setup.{Setup}
 use Rattle.cpu_table.specs.Ranges.{is_between, policy_fits, wave_fits, handlers_fit}
 use Rattle.cpu_table.specs.declared.setup.Mode.{Mode}
-use Rattle.sync_words.specs.declared.label.Label.{Label}
-use Rattle.sync_words.specs.declared.label.Label.TheVariants as say
 use Rattle.handler_ops.specs.declared.row.Row.TheVariants as told
 use Rattle.handler_ops.specs.Sessions.{registrations_of, pool_at_first, first_session}
-use Rattle.rendezvous_core.specs.declared.stepped.Stepped.{Stepped}
-use Rattle.rendezvous_core.specs.declared.stepped.Stepped.TheVariants as stepped
-use Rattle.rendezvous_core.specs.Worlds.{World, step, with_event, events_from, world_after, start, labels, with_label, replay_events, replay_world, last_image}
+use Rattle.rendezvous_core.specs.Worlds.{World, step, events_from, world_after, start, labels, replay_events, replay_world, last_image}
 use Rattle.rendezvous_machine.specs.Machines.{Machine, beginning, member}
-use Rattle.rendezvous_machine.specs.Rules.{Rule}
-use Rattle.rendezvous_machine.specs.Effects.{effect}
-use Rattle.rendezvous_machine.specs.Runs.{Said, IsRun, machine_after}
+use Rattle.rendezvous_machine.specs.Runs.{IsRun, machine_after}
 use Rattle.rendezvous_laws.proofs.Stages.{policy_of, one, Stage, AwaitingSmi, Herald, AnnouncingBlocked, Knowledge, Signals, world_at}
-use Rattle.rendezvous_laws.proofs.Holds.{Holds, IsFine, Kept, KeptBy, At, fine}
+use Rattle.rendezvous_laws.proofs.Simulations.{EachStepKeeps, ran_from}
+use Rattle.rendezvous_laws.proofs.Holds.{Holds, IsFine, Kept, At, fine}
 use Rattle.rendezvous_laws.proofs.Visits.{processor_kept}
 use Rattle.rendezvous_laws.proofs.Heralds.{chipset_kept}
 
@@ -33,44 +28,11 @@ module _ (d : SetupData) (mode : Mode) (elects : Bool) (fits : handlers_fit d.ha
   at_actor (suc zero) s h x g f = chipset_kept d mode elects s h x g f
   at_actor (suc (suc n)) s h x g f = fine d mode elects s h x g f
 
-  kept : (i : ℕ) (w : World) (m : Machine) → IsFine d mode elects w m → Kept d mode elects m i (step w i)
+  kept : EachStepKeeps (one d mode elects) (λ w m. IsFine d mode elects w m)
   kept i w m f =
       let P : World → Type 0 = λ (u : World). Kept d mode elects m i (step u i) in
       let Q : Machine → Type 0 = λ (n : Machine). Kept d mode elects n i (step (world_at d mode elects f.stage f.herald f.knowledge f.signals) i) in
       subst P f.world_is (subst Q f.machine_is (at_actor i f.stage f.herald f.knowledge f.signals f.holds))
-
--- a label that the machine allows, in front of a run, and the machine after it
-run_with_label : (d : SetupData) (m : Machine) (i : ℕ) (l : Label) (ls : List Said) → Rule d m i l → IsRun d (effect d m i l) ls → IsRun d m (with_label i l ls)
-run_with_label d m i say.Silent ls h t = t
-run_with_label d m i _ ls h t = (h, t)
-
-machine_with_label : (d : SetupData) (m : Machine) (i : ℕ) (l : Label) (ls : List Said) → machine_after d m (with_label i l ls) ≡ machine_after d (effect d m i l) ls
-machine_with_label d m i say.Silent ls = refl
-machine_with_label d m i _ ls = refl
-
--- what was said is a run, and at its end the world and the machine belong together
-record Ran (d : SetupData) (mode : Mode) (elects : Bool) (m : Machine) (ls : List Said) (w : World) : Type 0 where
-  run : IsRun (one d mode elects) m ls
-  fine_after : IsFine d mode elects w (machine_after (one d mode elects) m ls)
-
-module _ (d : SetupData) (mode : Mode) (elects : Bool) (fits : handlers_fit d.handlers ≡ true) where
-  ran_behind : (m : Machine) (i : ℕ) (rest : List ℕ) → ((w : World) (n : Machine) → IsFine d mode elects w n → Ran d mode elects n (labels (events_from w rest)) (world_after w rest))
-      → (st : Stepped) (w : World) → KeptBy d mode elects m i st w → Ran d mode elects m (labels (with_event st (events_from w rest))) (world_after w rest)
-  ran_behind m i rest again (stepped.Event e) w k =
-      let p : SetupData = one d mode elects in
-      let more = again w (effect p m i e.label) k.2 in
-      let ls : List Said = labels (events_from w rest) in
-      let P : ℕ → Type 0 = λ (j : ℕ). Ran d mode elects m (with_label j e.label ls) (world_after w rest) in
-      subst P (sym k.0) (record {
-        run = run_with_label p m i e.label ls k.1 more.run;
-        fine_after = subst (λ (n : Machine). IsFine d mode elects (world_after w rest) n) (sym (machine_with_label p m i e.label ls)) more.fine_after;
-      })
-  ran_behind m i rest again (stepped.Waiting found) w k = again w m k
-  ran_behind m i rest again stepped.Off w k = again w m k
-
-  ran_from : (schedule : List ℕ) (w : World) (m : Machine) → IsFine d mode elects w m → Ran d mode elects m (labels (events_from w schedule)) (world_after w schedule)
-  ran_from [] w m f = record { run = tt; fine_after = f }
-  ran_from (i ∷ rest) w m f = ran_behind m i rest (ran_from rest) (step w i).0 (step w i).1 (kept d mode elects fits i w m f)
 
 -- one processor's last resumed image, in the world and in the machine
 last_is : (d : SetupData) (mode : Mode) (elects : Bool) (w : World) (m : Machine) → IsFine d mode elects w m → last_image w 0 ≡ Some (member m 0).last
@@ -139,8 +101,8 @@ one_replayed d mode elects registers image schedule fits visits waves =
     let p : SetupData = one d mode elects in
     let w : World = start p (registers ∷ []) (image ∷ []) in
     let m : Machine = beginning p (registers ∷ []) (image ∷ []) in
-    let ran = ran_from d mode elects fits schedule w m (first_fine d mode elects registers image visits waves) in
-    record { run = ran.run; after = last_is d mode elects (world_after w schedule) (machine_after p m (labels (events_from w schedule))) ran.fine_after }
+    let ran = ran_from p (λ u n. IsFine d mode elects u n) (kept d mode elects fits) schedule w m (first_fine d mode elects registers image visits waves) in
+    record { run = ran.run; after = last_is d mode elects (world_after w schedule) (machine_after p m (labels (events_from w schedule))) ran.after }
 
 -- the policies of one processor
 one_policy : (policy : Policy) → policy_fits 1 policy ≡ true → (elects : Bool) × (policy_of elects ≡ policy)
