@@ -121,7 +121,7 @@ IdFits done id = (is_integer id ≡ true) × (true ≡ true) × (list_any (λ x.
 abbrev pub IdsFit : ℕ → List ℕ → Type 0
 IdsFit n ids = (length ids ≡ n) × (are_distinct (λ a b. a == b) ids ≡ true) × (list_all is_integer ids ≡ true)
 
-id_said : (done : List ℕ) (v : Data) (id : ℕ) → id_after done v ≡ Ok id → IsId v id × IdFits done id
+pub id_said : (done : List ℕ) (v : Data) (id : ℕ) → id_after done v ≡ Ok id → IsId v id × IdFits done id
 id_said done v id is =
     let (x, there, rest) = split (number_value (top key.Ids) 0 greatest v) (λ y. if list_any (λ z. z == y) done then Err (Range (top key.Ids) (pos y)) else Ok y) id is in
     let (says, low, high) = value_said (top key.Ids) 0 greatest v x there in

@@ -289,10 +289,10 @@ instruction_is : (port length kind : ℕ) (length_is_valid : IsTrue (is_io_lengt
     instruction port length kind ≡ Some (record { port = port; length = length; kind = kind; length_is_valid = length_is_valid; kind_is_valid = kind_is_valid })
 instruction_is port length kind length_is_valid kind_is_valid = passing (is_io_length length) length_is_valid _ ∙ passing (is_io_type kind) kind_is_valid _
 
-length_below : (n : ℕ) → is_io_length n ≡ true → n ≤ 255
+pub length_below : (n : ℕ) → is_io_length n ≡ true → n ≤ 255
 length_below n is = grind (arith, nat_tests)
 
-type_below : (n : ℕ) → is_io_type n ≡ true → n ≤ 255
+pub type_below : (n : ℕ) → is_io_type n ≡ true → n ≤ 255
 type_below n is = grind (arith, nat_tests)
 
 -- an I/O instruction that a table says

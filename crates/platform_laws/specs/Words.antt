@@ -19,6 +19,8 @@ use Rattle.cpu_table.specs.declared.handlers.Act.{Act}
 use Rattle.cpu_table.specs.declared.handlers.Act.TheVariants.{Get, Put}
 use Rattle.cpu_table.specs.declared.handlers.OpDef.{OpDef}
 use Rattle.cpu_table.specs.declared.handlers.OpDef.TheVariants as op
+use Rattle.platform_document.specs.declared.word.OperationWord.{OperationWord}
+use Rattle.platform_document.specs.declared.word.OperationWord.TheVariants as word
 
 -- the map of the save-state images
 abbrev pub map_text : MapKind → List ℕ
@@ -61,6 +63,21 @@ operation_text (op.Free place) = codes "free"
 operation_text (op.Register handler kind into) = codes "register"
 operation_text (op.Unregister handle) = codes "unregister"
 operation_text (op.Manage kind) = codes "manage"
+
+-- the word of an operation
+abbrev pub word_text : OperationWord → List ℕ
+word_text word.Set = codes "set"
+word_text word.Read = codes "read"
+word_text word.Write = codes "write"
+word_text word.Start = codes "start"
+word_text word.Launch = codes "launch"
+word_text word.Check = codes "check"
+word_text word.Wait = codes "wait"
+word_text word.Alloc = codes "alloc"
+word_text word.Free = codes "free"
+word_text word.Register = codes "register"
+word_text word.Unregister = codes "unregister"
+word_text word.Manage = codes "manage"
 
 -- a variable is the letter v and one decimal digit
 abbrev pub variable_text : ℕ → List ℕ
