@@ -159,14 +159,14 @@ judge_operation entries IsName names at t =
     judge_then (word_at (path_to at key.Op) operation_word t) (operation_as entries at t) (KeyFault (path_to at key.Op) (WordFault (path_to at key.Op) (IsPrinted word_text)) t)
     (λ f. (op : OperationWord) × SaysText t (codes "op") (word_text op) × (PartsFault IsName at op t f ⊎ NameFault at (codes "op" ∷ part_names op) t f))
     (judge_printed (path_to at key.Op) operation_word word_text operation_word_read operation_word_said t) given where
-  given : (w : OperationWord) → word_at (path_to at key.Op) operation_word t ≡ Ok w →
-      Judges (operation_as entries at t w) (λ f. (op : OperationWord) × SaysText t (codes "op") (word_text op) × (PartsFault IsName at op t f ⊎ NameFault at (codes "op" ∷ part_names op) t f))
-  given w is =
-      let says = word_is (path_to at key.Op) operation_word t w (word_text w) (λ text e. operation_word_said text w e) is in
-      let judged = judge_then (operation_by entries at t w) (λ x. and_no_other at (operation_keys w) t x) (PartsFault IsName at w t) (NameFault at (codes "op" ∷ part_names w) t)
+      given : (w : OperationWord) → word_at (path_to at key.Op) operation_word t ≡ Ok w →
+          Judges (operation_as entries at t w) (λ f. (op : OperationWord) × SaysText t (codes "op") (word_text op) × (PartsFault IsName at op t f ⊎ NameFault at (codes "op" ∷ part_names op) t f))
+      given w is =
+          let says = word_is (path_to at key.Op) operation_word t w (word_text w) (λ text e. operation_word_said text w e) is in
+          let judged = judge_then (operation_by entries at t w) (λ x. and_no_other at (operation_keys w) t x) (PartsFault IsName at w t) (NameFault at (codes "op" ∷ part_names w) t)
           (judge_parts entries IsName names at t w) (λ x found. judge_names at (operation_keys w) (codes "op" ∷ part_names w) (names_known w) t x) in
-      record {
-        stops = λ f there. (w, says, judged.stops f there);
-        reads = λ x there f fault.
-            judged.reads x there f (subst (λ (v : OperationWord). PartsFault IsName at v t f ⊎ NameFault at (codes "op" ∷ part_names v) t f) (same_word fault.0 w (text_once t (codes "op") (word_text fault.0) (word_text w) fault.1 says)) fault.2);
-      }
+          record {
+            stops = λ f there. (w, says, judged.stops f there);
+            reads = λ x there f fault.
+                judged.reads x there f (subst (λ (v : OperationWord). PartsFault IsName at v t f ⊎ NameFault at (codes "op" ∷ part_names v) t f) (same_word fault.0 w (text_once t (codes "op") (word_text fault.0) (word_text w) fault.1 says)) fault.2);
+          }

@@ -60,16 +60,17 @@ judge_policy : (n : ℕ) (t : Members) → Judges (policy_at n t) (PolicyFault n
 judge_policy n t =
     judge_then (word_at (at_top key.Policy) policy_of t) (policy_by n t) (KeyFault (at_top key.Policy) (WordFault (at_top key.Policy) (IsPrinted policy_text)) t) Boot
     (judge_word_at (at_top key.Policy) policy_of (IsPrinted policy_text) policy_none policy_some t) by_word where
-  Boot : WalkFault → Type 0
-  Boot f = SaysText t (codes "policy") (codes "fixed") × KeyFault (at_top key.Fixed) (NumberFault (at_top key.Fixed) 0 (n - 1)) t f
-  by_word : (w : PolicyWord) → word_at (at_top key.Policy) policy_of t ≡ Ok w → Judges (policy_by n t w) Boot
-  by_word policy.Elected is =
-      let says = word_is (at_top key.Policy) policy_of t policy.Elected (codes "elected") (λ text e. policy_word_said text policy.Elected e) is in
-      record { stops = λ f there. ok_err Elected f there; reads = λ x there f fault. elected_fixed (text_once t (codes "policy") (codes "elected") (codes "fixed") says fault.0) }
-  by_word policy.Fixed is =
-      let says = word_is (at_top key.Policy) policy_of t policy.Fixed (codes "fixed") (λ text e. policy_word_said text policy.Fixed e) is in
-      let judged = judge_last (number_at (at_top key.Fixed) 0 (n - 1) t) (λ b. Fixed b) (KeyFault (at_top key.Fixed) (NumberFault (at_top key.Fixed) 0 (n - 1)) t) (judge_number_at (at_top key.Fixed) 0 (n - 1) t) in
-      record { stops = λ f there. (says, judged.stops f there); reads = λ x there f fault. judged.reads x there f fault.1 }
+      Boot : WalkFault → Type 0
+      Boot f = SaysText t (codes "policy") (codes "fixed") × KeyFault (at_top key.Fixed) (NumberFault (at_top key.Fixed) 0 (n - 1)) t f
+
+      by_word : (w : PolicyWord) → word_at (at_top key.Policy) policy_of t ≡ Ok w → Judges (policy_by n t w) Boot
+      by_word policy.Elected is =
+          let says = word_is (at_top key.Policy) policy_of t policy.Elected (codes "elected") (λ text e. policy_word_said text policy.Elected e) is in
+          record { stops = λ f there. ok_err Elected f there; reads = λ x there f fault. elected_fixed (text_once t (codes "policy") (codes "elected") (codes "fixed") says fault.0) }
+      by_word policy.Fixed is =
+          let says = word_is (at_top key.Policy) policy_of t policy.Fixed (codes "fixed") (λ text e. policy_word_said text policy.Fixed e) is in
+          let judged = judge_last (number_at (at_top key.Fixed) 0 (n - 1) t) (λ b. Fixed b) (KeyFault (at_top key.Fixed) (NumberFault (at_top key.Fixed) 0 (n - 1)) t) (judge_number_at (at_top key.Fixed) 0 (n - 1) t) in
+          record { stops = λ f there. (says, judged.stops f there); reads = λ x there f fault. judged.reads x there f fault.1 }
 
 -- the looks
 abbrev IsNoLooks : List Data → Data → WalkFault → Type 0
@@ -95,19 +96,20 @@ judge_id : (before : List Data) (done : List ℕ) → Zips SaysId before done �
 judge_id before done zips v =
     judge_then (number_value (at_top key.Ids) 0 greatest v) (λ id. if list_any (λ x. x == id) done then Err (Range (at_top key.Ids) (pos id)) else Ok id) (NumberFault (at_top key.Ids) 0 greatest v) Again
     (judge_number (at_top key.Ids) 0 greatest v) (λ id is. by_id id (value_said (at_top key.Ids) 0 greatest v id is).0) where
-  Again : WalkFault → Type 0
-  Again f = (id : ℕ) × (v ≡ integer (pos id)) × IsAmong (λ w. w ≡ integer (pos id)) before × (f ≡ Range (at_top key.Ids) (pos id))
-  by_id : (id : ℕ) → SaysId v id → Judges (if list_any (λ x. x == id) done then Err (Range (at_top key.Ids) (pos id)) else Ok id) Again
-  by_id id says =
-      let judged = judge_untest (list_any (λ x. x == id) done) id (Range (at_top key.Ids) (pos id)) (IsAmong (λ w. w ≡ integer (pos id)) before)
+      Again : WalkFault → Type 0
+      Again f = (id : ℕ) × (v ≡ integer (pos id)) × IsAmong (λ w. w ≡ integer (pos id)) before × (f ≡ Range (at_top key.Ids) (pos id))
+
+      by_id : (id : ℕ) → SaysId v id → Judges (if list_any (λ x. x == id) done then Err (Range (at_top key.Ids) (pos id)) else Ok id) Again
+      by_id id says =
+          let judged = judge_untest (list_any (λ x. x == id) done) id (Range (at_top key.Ids) (pos id)) (IsAmong (λ w. w ≡ integer (pos id)) before)
           (λ none among. false≢true (sym none ∙ among_any SaysId (λ w. w ≡ integer (pos id)) (λ x. x == id) (λ w x one such. eq-eqb x id (same_ids w x id one such)) before done zips among))
           (λ any. any_among SaysId (λ w. w ≡ integer (pos id)) (λ x. x == id) (λ w x one same. one ∙ ap (λ k. integer (pos k)) (eqb-true x id same)) before done zips any) in
-      record {
-        stops = λ f there. let out = judged.stops f there in (id, says, out.0, out.1);
-        reads = λ x there f fault.
-            let (other, also, among, told) = fault in
-            judged.reads x there (Range (at_top key.Ids) (pos id)) (subst (λ (k : ℕ). IsAmong (λ w. w ≡ integer (pos k)) before) (same_ids v other id also says) among, refl);
-      }
+          record {
+            stops = λ f there. let out = judged.stops f there in (id, says, out.0, out.1);
+            reads = λ x there f fault.
+                let (other, also, among, told) = fault in
+                judged.reads x there (Range (at_top key.Ids) (pos id)) (subst (λ (k : ℕ). IsAmong (λ w. w ≡ integer (pos k)) before) (same_ids v other id also says) among, refl);
+          }
 
 judge_ids : (n : ℕ) (t : Members) → Judges (ids_at n t) (IdsFault n t)
 judge_ids n t =
@@ -203,11 +205,13 @@ judge_layout t n None processors says = record { stops = λ f is. ok_err tt f is
 judge_layout t n (Some a) processors says = by_refusal (layout_refusal a n) refl where
   here : IsThere t a
   here = is_there t a (get_member (codes "smram") t) refl says
+
   same : (f : WalkFault) (fault : LayoutFault t f) → layout_refusal fault.area fault.processors ≡ layout_refusal a n
   same f fault =
       let value = same_Some fault.value here.value (sym fault.there ∙ here.there) in
       ap (λ x. layout_refusal x fault.processors) (value_once here.value fault.area a (subst (λ v. IsTableOf (λ e. SaysArea e fault.area) v) value fault.area_is) here.area_is)
       ∙ ap (layout_refusal a) (number_once t (codes "processors") fault.processors n fault.processors_is processors)
+
   by_refusal : (o : Option LayoutError) → layout_refusal a n ≡ o → Judges (unless_refused o) (LayoutFault t)
   by_refusal None e = record { stops = λ f is. ok_err tt f is; reads = λ x is f fault. none-some fault.refusal (sym e ∙ sym (same f fault) ∙ fault.refused) }
   by_refusal (Some refusal) e = record {

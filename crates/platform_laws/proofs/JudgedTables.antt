@@ -72,11 +72,11 @@ pub judge_entries : {A : Type 0} (place : ℕ → TablePlace) (inner : List A �
     Judges (each (λ done v. read_then (entry_of (place (length done)) v) (inner done (length done))) [] vs) (SomeFault (λ before w g. TableFault (NoTable (place (length before))) (IsWrong before (length before)) w g) [] vs)
 judge_entries {A = A} place inner Says IsWrong said one vs =
     judge_each (λ done v. read_then (entry_of (place (length done)) v) (inner done (length done))) Says (λ before w g. TableFault (NoTable (place (length before))) (IsWrong before (length before)) w g) said at_place [] [] tt vs where
-  at_place : (before : List Data) (done : List A) → Zips Says before done → (v : Data) →
-      Judges (read_then (entry_of (place (length done)) v) (inner done (length done))) (λ g. TableFault (NoTable (place (length before))) (IsWrong before (length before)) v g)
-  at_place before done zips v =
-      subst (λ (k : ℕ). Judges (read_then (entry_of (place (length done)) v) (inner done (length done))) (λ g. TableFault (NoTable (place k)) (IsWrong before k) v g)) (zips_length Says before done zips)
-      (judge_table (NoTable (place (length done))) v (inner done (length done)) (IsWrong before (length done)) (λ t is. one before done zips (length done) t))
+      at_place : (before : List Data) (done : List A) → Zips Says before done → (v : Data) →
+          Judges (read_then (entry_of (place (length done)) v) (inner done (length done))) (λ g. TableFault (NoTable (place (length before))) (IsWrong before (length before)) v g)
+      at_place before done zips v =
+          subst (λ (k : ℕ). Judges (read_then (entry_of (place (length done)) v) (inner done (length done))) (λ g. TableFault (NoTable (place k)) (IsWrong before k) v g)) (zips_length Says before done zips)
+          (judge_table (NoTable (place (length done))) v (inner done (length done)) (IsWrong before (length done)) (λ t is. one before done zips (length done) t))
 
 past_end : (n : ℕ) → nat_le n 4294967296 ≡ false → 4294967296 < n
 past_end n is = grind (arith, nat_tests)
@@ -86,20 +86,21 @@ judge_size : (base : ℕ) (t : Members) → SaysNumber t (codes "base") base →
 judge_size base t base_says =
     judge_then (number_at (path_to place.Smram key.Size) 1 8388608 t) (size_after base) (KeyFault (path_to place.Smram key.Size) (NumberFault (path_to place.Smram key.Size) 1 8388608) t) _
     (judge_number_at (path_to place.Smram key.Size) 1 8388608 t) (λ size is. by_size size (number_said (path_to place.Smram key.Size) 1 8388608 t size is).0) where
-  Past : WalkFault → Type 0
-  Past f = (b : ℕ) × (size : ℕ) × SaysNumber t (codes "base") b × SaysNumber t (codes "size") size × (4294967296 < b + size) × (f ≡ Range (path_to place.Smram key.Size) (pos size))
-  by_size : (size : ℕ) → SaysNumber t (codes "size") size → Judges (size_after base size) Past
-  by_size size size_says =
-      let judged = judge_test (nat_le (base + size) 4294967296) size (Range (path_to place.Smram key.Size) (pos size)) (4294967296 < base + size)
+      Past : WalkFault → Type 0
+      Past f = (b : ℕ) × (size : ℕ) × SaysNumber t (codes "base") b × SaysNumber t (codes "size") size × (4294967296 < b + size) × (f ≡ Range (path_to place.Smram key.Size) (pos size))
+
+      by_size : (size : ℕ) → SaysNumber t (codes "size") size → Judges (size_after base size) Past
+      by_size size size_says =
+          let judged = judge_test (nat_le (base + size) 4294967296) size (Range (path_to place.Smram key.Size) (pos size)) (4294967296 < base + size)
           (λ is past. let low = leb-true (base + size) 4294967296 is in omega (arith, low, past)) (λ is. past_end (base + size) is) in
-      record {
-        stops = λ f there. let out = judged.stops f there in (base, size, base_says, size_says, out.0, out.1);
-        reads = λ x there f fault.
-            let (b, s, b_says, s_says, past, told) = fault in
-            let same_base = number_once t (codes "base") b base b_says base_says in
-            let same_size = number_once t (codes "size") s size s_says size_says in
-            judged.reads x there (Range (path_to place.Smram key.Size) (pos size)) (omega (arith, past, same_base, same_size), refl);
-      }
+          record {
+            stops = λ f there. let out = judged.stops f there in (base, size, base_says, size_says, out.0, out.1);
+            reads = λ x there f fault.
+                let (b, s, b_says, s_says, past, told) = fault in
+                let same_base = number_once t (codes "base") b base b_says base_says in
+                let same_size = number_once t (codes "size") s size s_says size_says in
+                judged.reads x there (Range (path_to place.Smram key.Size) (pos size)) (omega (arith, past, same_base, same_size), refl);
+          }
 
 judge_area : (t : Members) → Judges (area_in t) (AreaFault t)
 judge_area t =
@@ -150,9 +151,9 @@ judge_name taken before among any at t =
     (λ text is. judge_test (is_name text && not (taken text)) text (Word (path_to at key.Name)) (IsNewName before text → ⊥)
     (λ good bad. let (named, fresh) = and_parts (is_name text) (not (taken text)) good in bad (named, λ there. false≢true (ap not (sym (among text there)) ∙ fresh)))
     (λ bad good. false≢true (sym bad ∙ and_from (is_name text) (not (taken text)) good.0 (untaken text (taken text) refl good.1)))))) where
-  untaken : (text : List ℕ) (b : Bool) → taken text ≡ b → (IsAmong (IsNamed text) before → ⊥) → not b ≡ true
-  untaken text true e none = absurd (none (any text e))
-  untaken text false e none = refl
+      untaken : (text : List ℕ) (b : Bool) → taken text ≡ b → (IsAmong (IsNamed text) before → ⊥) → not b ≡ true
+      untaken text true e none = absurd (none (any text e))
+      untaken text false e none = refl
 
 -- the names of the file's handlers
 named_of : (name : List ℕ) (v : Data) → has_name name v ≡ true → IsNamed name v
@@ -160,6 +161,7 @@ named_of name (table t) is = (t, refl, by_member (get_member (codes "name") t) i
   by_text : (v : Data) (o : Option (List ℕ)) → as_str v ≡ o → text_is name o ≡ true → v ≡ string name
   by_text v None e is = absurd (false≢true is)
   by_text v (Some text) e is = string_is v text e ∙ ap string ((bytes_eq-Decides text name).0 is)
+
   by_member : (o : Option Data) → text_is name (option_and_then as_str o) ≡ true → o ≡ Some (string name)
   by_member None is = absurd (false≢true is)
   by_member (Some v) is = ap Some (by_text v (as_str v) refl is)
@@ -190,12 +192,15 @@ file_names t v items there is = record {
 } where
   Names : List ℕ → Option Data → Type 0
   Names name o = MatchOption o ⊥ (λ w. (found : Items) × (w ≡ array found) × IsAmong (IsNamed name) (data_list found))
+
   from_file : (name : List ℕ) → IsFileName t name → IsAmong (IsNamed name) (data_list items)
   from_file name named =
       let (found, same, among) = subst (Names name) there named in
       subst (λ (xs : Items). IsAmong (IsNamed name) (data_list xs)) (same_Some found items (ap as_array (sym same ∙ is))) among
+
   to_file : (name : List ℕ) → IsAmong (IsNamed name) (data_list items) → IsFileName t name
   to_file name among = subst (Names name) (sym there) (items, is, among)
+
   not_found : (name : List ℕ) → handler_named (data_list items) name ≡ None → IsAmong (IsNamed name) (data_list items) → ⊥
   not_found name none among =
       none-some (position_or_len (has_name name) (data_list items))
@@ -260,22 +265,24 @@ judge_choice path is_there below t =
     (λ v. judge_same _ (read_then (ok_or (as_integer v) (WrongType path)) (λ z. read_then (number_within path 0 255 z) (one_of path is_there))) (ChoiceFault path is_there v)
     (then_twice (ok_or (as_integer v) (WrongType path)) (number_within path 0 255) (one_of path is_there))
     (judge_kind as_integer (λ z. integer z) (WrongType path) (λ z. refl) integer_is v (λ z. read_then (number_within path 0 255 z) (one_of path is_there)) (λ z g. NoChoice z × (g ≡ Range path z)) (λ z is. by_number z)))) where
-  NoChoice : ℤ → Type 0
-  NoChoice z = (n : ℕ) → z ≡ pos n → IsTrue (is_there n) → ⊥
-  by_test : (n : ℕ) (b : Bool) → (nat_le 0 n && nat_le n 255) ≡ b → Judges (read_then (if b then Ok n else Err (Range path (pos n))) (one_of path is_there)) (λ g. NoChoice (pos n) × (g ≡ Range path (pos n)))
-  by_test n true e = judge_test (is_there n) n (Range path (pos n)) (NoChoice (pos n)) (λ yes none. none n refl yes) (λ no m same yes. false≢true (sym no ∙ ap is_there (same_pos n m same) ∙ yes))
-  by_test n false e = record {
-    stops = λ f is. (
-      (λ m same yes.
-          let back = same_pos n m same in
-          false≢true (sym e ∙ and_from (nat_le 0 n) (nat_le n 255) (le-leb 0 n (omega arith)) (le-leb n 255 (subst (λ (k : ℕ). k ≤ 255) (sym back) (below m yes))))),
-      sym (same_err (Range path (pos n)) f is),
-    );
-    reads = λ x is f fault. err_ok (Range path (pos n)) x is;
-  }
-  by_number : (z : ℤ) → Judges (read_then (number_within path 0 255 z) (one_of path is_there)) (λ g. NoChoice z × (g ≡ Range path z))
-  by_number (pos n) = by_test n (nat_le 0 n && nat_le n 255) refl
-  by_number (negsuc n) = record { stops = λ f is. ((λ m same yes. neg_pos n m same), sym (same_err (Range path (negsuc n)) f is)); reads = λ x is f fault. err_ok (Range path (negsuc n)) x is }
+      NoChoice : ℤ → Type 0
+      NoChoice z = (n : ℕ) → z ≡ pos n → IsTrue (is_there n) → ⊥
+
+      by_test : (n : ℕ) (b : Bool) → (nat_le 0 n && nat_le n 255) ≡ b → Judges (read_then (if b then Ok n else Err (Range path (pos n))) (one_of path is_there)) (λ g. NoChoice (pos n) × (g ≡ Range path (pos n)))
+      by_test n true e = judge_test (is_there n) n (Range path (pos n)) (NoChoice (pos n)) (λ yes none. none n refl yes) (λ no m same yes. false≢true (sym no ∙ ap is_there (same_pos n m same) ∙ yes))
+      by_test n false e = record {
+        stops = λ f is. (
+          (λ m same yes.
+              let back = same_pos n m same in
+              false≢true (sym e ∙ and_from (nat_le 0 n) (nat_le n 255) (le-leb 0 n (omega arith)) (le-leb n 255 (subst (λ (k : ℕ). k ≤ 255) (sym back) (below m yes))))),
+          sym (same_err (Range path (pos n)) f is),
+        );
+        reads = λ x is f fault. err_ok (Range path (pos n)) x is;
+      }
+
+      by_number : (z : ℤ) → Judges (read_then (number_within path 0 255 z) (one_of path is_there)) (λ g. NoChoice z × (g ≡ Range path z))
+      by_number (pos n) = by_test n (nat_le 0 n && nat_le n 255) refl
+      by_number (negsuc n) = record { stops = λ f is. ((λ m same yes. neg_pos n m same), sym (same_err (Range path (negsuc n)) f is)); reads = λ x is f fault. err_ok (Range path (negsuc n)) x is }
 
 judge_io : (at : TablePlace) (t : Members) → Judges (instruction_in at t) (IoFault at t)
 judge_io at t =
@@ -319,22 +326,25 @@ judge_visit : (visits : ℕ) (before : List Data) (done : List CauseAt) → Zips
 judge_visit visits before done zips at cpu t cpu_says =
     judge_then (number_at (path_to (place.Cause at) key.Visit) 1 visits t) (visit_after done (path_to (place.Cause at) key.Visit) cpu) (KeyFault (path_to (place.Cause at) key.Visit) (NumberFault (path_to (place.Cause at) key.Visit) 1 visits) t) Again
     (judge_number_at (path_to (place.Cause at) key.Visit) 1 visits t) (λ visit is. by_visit visit (number_said (path_to (place.Cause at) key.Visit) 1 visits t visit is).0) where
-  Again : WalkFault → Type 0
-  Again f = (c : ℕ) × (visit : ℕ) × SaysNumber t (codes "cpu") c × SaysNumber t (codes "visit") visit × IsAmong (IsVisit c visit) before × (f ≡ Range (path_to (place.Cause at) key.Visit) (pos visit))
-  by_visit : (visit : ℕ) → SaysNumber t (codes "visit") visit → Judges (visit_after done (path_to (place.Cause at) key.Visit) cpu visit) Again
-  by_visit visit visit_says =
-      let judged = judge_untest (list_any (is_of cpu visit) done) visit (Range (path_to (place.Cause at) key.Visit) (pos visit)) (IsAmong (IsVisit cpu visit) before)
+      Again : WalkFault → Type 0
+      Again f = (c : ℕ) × (visit : ℕ) × SaysNumber t (codes "cpu") c × SaysNumber t (codes "visit") visit × IsAmong (IsVisit c visit) before × (f ≡ Range (path_to (place.Cause at) key.Visit) (pos visit))
+
+      by_visit : (visit : ℕ) → SaysNumber t (codes "visit") visit → Judges (visit_after done (path_to (place.Cause at) key.Visit) cpu visit) Again
+      by_visit visit visit_says =
+          let judged = judge_untest (list_any (is_of cpu visit) done) visit (Range (path_to (place.Cause at) key.Visit) (pos visit)) (IsAmong (IsVisit cpu visit) before)
           (λ none among. false≢true (sym none ∙ among_any SaysVisit (IsVisit cpu visit) (is_of cpu visit)
           (λ v x one such. let (a, b) = same_visits x.cpu x.visit cpu visit v one such in is_of_true cpu visit x a b) before done zips among))
           (λ any. any_among SaysVisit (IsVisit cpu visit) (is_of cpu visit) (visit_such cpu visit) before done zips any) in
-      record {
-        stops = λ f there. let out = judged.stops f there in (cpu, visit, cpu_says, visit_says, out.0, out.1);
-        reads = λ x there f fault.
-            let (c, other, c_says, other_says, among, told) = fault in
-            judged.reads x there (Range (path_to (place.Cause at) key.Visit) (pos visit))
-            (subst (λ (k : ℕ). IsAmong (IsVisit cpu k) before) (number_once t (codes "visit") other visit other_says visit_says)
-            (subst (λ (k : ℕ). IsAmong (IsVisit k other) before) (number_once t (codes "cpu") c cpu c_says cpu_says) among), refl);
-      }
+          record {
+            stops = λ f there. let out = judged.stops f there in (cpu, visit, cpu_says, visit_says, out.0, out.1);
+            reads = λ x there f fault.
+                let (c, other, c_says, other_says, among, told) = fault in
+                judged.reads x there (Range (path_to (place.Cause at) key.Visit) (pos visit)) (
+                  subst (λ (k : ℕ). IsAmong (IsVisit cpu k) before) (number_once t (codes "visit") other visit other_says visit_says)
+                      (subst (λ (k : ℕ). IsAmong (IsVisit k other) before) (number_once t (codes "cpu") c cpu c_says cpu_says) among),
+                  refl,
+                );
+          }
 
 judge_cause : (n visits : ℕ) (before : List Data) (done : List CauseAt) → Zips SaysVisit before done → (at : ℕ) (t : Members) → Judges (cause_in n visits done at t) (CauseFault n visits before at t)
 judge_cause n visits before done zips at t =

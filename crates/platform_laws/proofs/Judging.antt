@@ -94,9 +94,9 @@ pub judge_kind_only : {A : Type 0} (view : Data → Option A) (kind : A → Data
     (v : Data) → Judges (ok_or (view v) other) (KindFault kind other NoFault v)
 judge_kind_only {A = A} view kind other there back v =
     judge_same (ok_or (view v) other) (read_then (ok_or (view v) other) (λ x. Ok x)) (KindFault kind other NoFault v) (same (ok_or (view v) other)) (judge_kind view kind other there back v (λ x. Ok x) NoFault (λ x is. judge_ok x)) where
-  same : (r : Reading A) → r ≡ read_then r (λ x. Ok x)
-  same (Ok x) = refl
-  same (Err e) = refl
+      same : (r : Reading A) → r ≡ read_then r (λ x. Ok x)
+      same (Ok x) = refl
+      same (Err e) = refl
 
 -- a member
 pub judge_required : {A : Type 0} (path : Path) (t : Members) (next : Data → Reading A) (IsWrong : Data → WalkFault → Type 0) → ((v : Data) → Judges (next v) (IsWrong v)) → Judges (read_then (required path t) next) (KeyFault path IsWrong t)
@@ -151,9 +151,9 @@ pub judge_word : {A : Type 0} (path : Path) (find : List ℕ → Option A) (IsWo
     (v : Data) → Judges (word_of path find v) (WordFault path IsWord v)
 judge_word {A = A} path find IsWord none some v =
     judge_kind as_str (λ s. string s) (WrongType path) (λ s. refl) string_is v (λ text. ok_or (find text) (Word path)) (λ text f. (IsWord text → ⊥) × (f ≡ Word path)) (λ text is. by_find text (find text) refl) where
-  by_find : (text : List ℕ) (o : Option A) → find text ≡ o → Judges (ok_or o (Word path)) (λ f. (IsWord text → ⊥) × (f ≡ Word path))
-  by_find text None e = record { stops = λ f is. (none text e, sym (same_err (Word path) f is)); reads = λ x is f fault. err_ok (Word path) x is }
-  by_find text (Some x) e = record { stops = λ f is. ok_err x f is; reads = λ y is f fault. fault.0 (some text x e) }
+      by_find : (text : List ℕ) (o : Option A) → find text ≡ o → Judges (ok_or o (Word path)) (λ f. (IsWord text → ⊥) × (f ≡ Word path))
+      by_find text None e = record { stops = λ f is. (none text e, sym (same_err (Word path) f is)); reads = λ x is f fault. err_ok (Word path) x is }
+      by_find text (Some x) e = record { stops = λ f is. ok_err x f is; reads = λ y is f fault. fault.0 (some text x e) }
 
 pub judge_word_at : {A : Type 0} (path : Path) (find : List ℕ → Option A) (IsWord : List ℕ → Type 0) → ((text : List ℕ) → find text ≡ None → IsWord text → ⊥) → ((text : List ℕ) (x : A) → find text ≡ Some x → IsWord text) →
     (t : Members) → Judges (word_at path find t) (KeyFault path (WordFault path IsWord) t)
@@ -178,13 +178,14 @@ judge_list {A = A} path first last next IsWrong v deeper =
     (λ items g. (IsNoLength first last (length (data_list items)) × (g ≡ Range path (pos (length (data_list items))))) ⊎ SomeFault IsWrong [] (data_list items) g)
     (λ items is. judge_then (counted path first last (data_list items)) next (λ g. IsNoLength first last (length (data_list items)) × (g ≡ Range path (pos (length (data_list items))))) (SomeFault IsWrong [] (data_list items))
     (judge_counted path first last (data_list items)) (after items is))) where
-  same : (o : Option Items) → read_then (read_then (ok_or (option_map data_list o) (WrongType path)) (counted path first last)) next ≡ read_then (ok_or o (WrongType path)) (λ items. read_then (counted path first last (data_list items)) next)
-  same None = refl
-  same (Some items) = refl
-  after : (items : Items) → v ≡ array items → (vs : List Data) → counted path first last (data_list items) ≡ Ok vs → Judges (next vs) (SomeFault IsWrong [] (data_list items))
-  after items is vs there =
-      let (whole, low, high) = counted_said path first last (data_list items) vs there in
-      subst (λ (ws : List Data). Judges (next ws) (SomeFault IsWrong [] (data_list items))) whole (deeper items is low high)
+      same : (o : Option Items) → read_then (read_then (ok_or (option_map data_list o) (WrongType path)) (counted path first last)) next ≡ read_then (ok_or o (WrongType path)) (λ items. read_then (counted path first last (data_list items)) next)
+      same None = refl
+      same (Some items) = refl
+
+      after : (items : Items) → v ≡ array items → (vs : List Data) → counted path first last (data_list items) ≡ Ok vs → Judges (next vs) (SomeFault IsWrong [] (data_list items))
+      after items is vs there =
+          let (whole, low, high) = counted_said path first last (data_list items) vs there in
+          subst (λ (ws : List Data). Judges (next ws) (SomeFault IsWrong [] (data_list items))) whole (deeper items is low high)
 
 pub judge_list_at : {A : Type 0} (path : Path) (first last : ℕ) (next : List Data → Reading A) (IsWrong : List Data → Data → WalkFault → Type 0) (t : Members) →
     ((vs : List Data) → first ≤ length vs → length vs ≤ last → Judges (next vs) (SomeFault IsWrong [] vs)) →

@@ -106,7 +106,7 @@ abbrev pub SizeFault : Members → WalkFault → Type 0
 SizeFault t f =
     KeyFault (path_to place.Smram key.Size) (NumberFault (path_to place.Smram key.Size) 1 8388608) t f
     ⊎ ((base : ℕ) × (size : ℕ) × SaysNumber t (codes "base") base × SaysNumber t (codes "size") size × (4294967296 < base + size)
-       × (f ≡ Range (path_to place.Smram key.Size) (pos size)))
+    × (f ≡ Range (path_to place.Smram key.Size) (pos size)))
 
 -- the areas of the processors
 abbrev pub AreaFault : Members → WalkFault → Type 0
@@ -235,7 +235,7 @@ abbrev pub VisitFault : ℕ → List Data → Path → Members → WalkFault →
 VisitFault visits before path t f =
     KeyFault path (NumberFault path 1 visits) t f
     ⊎ ((cpu : ℕ) × (visit : ℕ) × SaysNumber t (codes "cpu") cpu × SaysNumber t (codes "visit") visit
-       × IsAmong (IsTableOf (λ e. SaysNumber e (codes "cpu") cpu × SaysNumber e (codes "visit") visit)) before × (f ≡ Range path (pos visit)))
+    × IsAmong (IsTableOf (λ e. SaysNumber e (codes "cpu") cpu × SaysNumber e (codes "visit") visit)) before × (f ≡ Range path (pos visit)))
 
 -- a cause, given how many processors and visits there are, and the causes before it
 abbrev pub CauseFault : ℕ → ℕ → List Data → ℕ → Members → WalkFault → Type 0
