@@ -1,15 +1,11 @@
 -- The words of a file, and the parts that several tables have, each with what may be wrong with it.
-use Rattle.std.proofs.Common.{◌≡◌, ◌⊎◌, inl, inr, ℕ, ℤ, List, [], ◌∷◌, Option, Some, None, Ok, Err, codes, refl, ap, sym, subst, ◌∙◌}
+use Rattle.std.proofs.Common.{◌≡◌, ◌⊎◌, inl, inr, ℕ, ℤ, List, ◌∷◌, Option, Some, None, Ok, Err, codes, refl, ap, sym, subst, ◌∙◌}
 use Rattle.std.specs.Prelude.{ok_or}
 use Rattle.std.specs.List.{list_any}
 use Rattle.std.specs.Str.{bytes_eq}
 use Rattle.std.proofs.lemmas.Option.{same_Some, none-some}
 use Rattle.toml.specs.Data.{Data, integer, string, Members, as_integer, as_str}
 use Rattle.smm_base.specs.Register.{register_text, register_named, register_number}
-use Rattle.smm_base.specs.Status.{status_text}
-use Rattle.smm_base.specs.declared.kinds.MapKind.{MapKind}
-use Rattle.smm_base.specs.declared.status.Status.{Status}
-use Rattle.cpu_table.specs.declared.handlers.OpDef.TheVariants as op
 use Rattle.cpu_table.specs.declared.handlers.Operand.{Operand}
 use Rattle.cpu_table.specs.declared.handlers.Operand.TheVariants.{Number}
 use Rattle.platform_document.specs.declared.operand.Variable.{Variable}
@@ -21,7 +17,7 @@ use Rattle.platform_document.specs.declared.fault.WalkFault.{WalkFault}
 use Rattle.platform_document.specs.declared.fault.WalkFault.TheVariants.{WrongType, Word, Range}
 use Rattle.platform_document.specs.declared.word.OperationWord.{OperationWord}
 use Rattle.platform_document.specs.declared.word.OperationWord.TheVariants as word
-use Rattle.platform_document.specs.Reading.{Reading, read_then, path_to, number_within, greatest, word_of, word_at, is_known, and_no_other}
+use Rattle.platform_document.specs.Reading.{path_to, number_within, greatest, word_of, word_at, is_known, and_no_other}
 use Rattle.platform_document.specs.Words.{answer_of, kind_of, start_list_of, variable_of, operand_of, operation_word}
 use Rattle.platform_document.specs.CommonKeys.{cpu_at, register_at, width_at, into_at, kind_at}
 use Rattle.platform_document.specs.Operands.{operand_by, operand_value, operand_at}

@@ -1,11 +1,11 @@
 -- A whole document with what may be wrong with it.
-use Rattle.std.proofs.Common.{◌≡◌, ◌⊎◌, inl, inr, ℕ, pos, ◌-◌, ◌<◌, ◌≤◌, Bool, true, false, ◌==◌, nat_le, List, [], ◌∷◌, ◌++◌, length, Option, Some, None, Ok, Err, codes, refl, ap, sym, subst, ◌∙◌, if◌then◌else◌, arith}
+use Rattle.std.proofs.Common.{◌≡◌, ◌⊎◌, inl, inr, ℕ, pos, ◌-◌, ◌<◌, ◌≤◌, true, false, ◌==◌, nat_le, List, [], ◌∷◌, ◌++◌, length, Option, Some, None, Ok, Err, codes, refl, ap, sym, subst, ◌∙◌, if◌then◌else◌, arith}
 use Rattle.std.specs.Prelude.{MatchOption}
 use Rattle.std.specs.List.{list_any, range_with_len}
 use Rattle.std.proofs.lemmas.Bool.{eqb-true, eq-eqb, leb-true, false≢true}
 use Rattle.std.proofs.lemmas.Bool.Decides.{nat_tests}
 use Rattle.std.proofs.lemmas.Option.{same_Some, none-some}
-use Rattle.toml.specs.Data.{Data, integer, array, table, Items, no_items, item, Members, no_members, member, get_member, as_array, as_table}
+use Rattle.toml.specs.Data.{Data, integer, array, Items, no_items, item, Members, no_members, member, get_member, as_array, as_table}
 use Rattle.smm_base.specs.declared.kinds.Policy.{Policy}
 use Rattle.smm_base.specs.declared.kinds.Policy.TheVariants.{Elected, Fixed}
 use Rattle.cpu_table.specs.Data.{SetupData}
@@ -20,21 +20,21 @@ use Rattle.platform_document.specs.declared.fault.WalkFault.{WalkFault}
 use Rattle.platform_document.specs.declared.fault.WalkFault.TheVariants.{Range, TooLarge, Layout}
 use Rattle.platform_document.specs.declared.word.PolicyWord.{PolicyWord}
 use Rattle.platform_document.specs.declared.word.PolicyWord.TheVariants as policy
-use Rattle.platform_document.specs.Reading.{Reading, read_then, found_at, greatest, number_value, number_at, word_at, each, and_no_other}
+use Rattle.platform_document.specs.Reading.{Reading, read_then, found_at, greatest, number_value, number_at, word_at, each}
 use Rattle.platform_document.specs.Words.{map_of, policy_of, mode_of}
 use Rattle.platform_file.specs.declared.head.Head.{Head}
 use Rattle.platform_file.specs.Head.{policy_by, policy_at, polls_in, polls_at, id_after, ids_by, ids_at, smram_at, wave_entries, handler_entries, handler_entries, procedure_entries, cause_entries, keys_by, keys_read, lists_checked, head_at}
-use Rattle.platform_file.specs.Area.{area_of, area_at, unless_refused, layout_judged}
+use Rattle.platform_file.specs.Area.{area_of, unless_refused, layout_judged}
 use Rattle.platform_file.specs.Waves.{wave_after, waves_at}
-use Rattle.platform_file.specs.Handlers.{handlers_in, handlers_at, procedure_after, procedures_at}
+use Rattle.platform_file.specs.Handlers.{handlers_in, procedure_after}
 use Rattle.platform_file.specs.Causes.{cause_after, causes_at}
-use Rattle.platform_file.specs.Walk.{most_events, within_limit, limits_judged, tables_at, setup_at}
+use Rattle.platform_file.specs.Walk.{most_events, within_limit, tables_at, setup_at}
 use Rattle.platform_laws.specs.Words.{map_text, policy_text, mode_text}
 use Rattle.platform_laws.specs.Values.{SaysNumber, SaysText, SaysList, EachSays, HasOnly, IsTableOf}
 use Rattle.platform_laws.specs.Says.{Says, SaysArea, SaysOption, names_by, top_names}
 use Rattle.platform_laws.specs.Fits.{Fits}
 use Rattle.platform_laws.specs.ValueFaults.{KeyFault, NumberFault, WordFault, SomeFault, ListFault, NameFault, IsAmong}
-use Rattle.platform_laws.specs.Faults.{at_top, IsPrinted, GivenBoth, PolicyFault, PollsFault, IdFault, IdsFault, HeadFault, TopNameFault, SmramFault, WavesFault, HandlersFault, ProceduresFault, CausesFault, EventsFault, LayoutFault, RestFault, IsFault}
+use Rattle.platform_laws.specs.Faults.{at_top, IsPrinted, GivenBoth, PolicyFault, PollsFault, IdFault, IdsFault, HeadFault, TopNameFault, WavesFault, CausesFault, EventsFault, LayoutFault, RestFault, IsFault}
 use Rattle.platform_laws.proofs.Readings.{split, err_ok, number_said, value_said}
 use Rattle.platform_laws.proofs.Words.{map_said, map_read, policy_word_said, mode_said, mode_read}
 use Rattle.platform_laws.proofs.Parts.{word_is}

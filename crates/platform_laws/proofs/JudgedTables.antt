@@ -1,23 +1,20 @@
 -- The tables behind the top one, each with what may be wrong with it.
-use Rattle.std.proofs.Common.{◌≡◌, ◌⊎◌, inl, inr, ℕ, ℤ, zero, suc, pos, negsuc, ◌+◌, ◌-◌, ◌<◌, ◌≤◌, Bool, true, false, not, ◌&&◌, ◌||◌, ◌==◌, nat_lt, nat_le, List, [], ◌∷◌, ◌++◌, length, get_or, Option, Some, None, Ok, Err, cond, codes, refl, ap, sym, subst, ◌∙◌, le-leb, lt-ltb, IsTrue, if◌then◌else◌, arith}
+use Rattle.std.proofs.Common.{◌≡◌, ◌⊎◌, inl, inr, ℕ, ℤ, zero, suc, pos, negsuc, ◌+◌, ◌-◌, ◌<◌, ◌≤◌, Bool, true, false, not, ◌&&◌, ◌||◌, ◌==◌, nat_le, List, [], ◌∷◌, length, get_or, Option, Some, None, Ok, Err, cond, codes, refl, ap, sym, subst, ◌∙◌, le-leb, lt-ltb, IsTrue, if◌then◌else◌, arith}
 use Rattle.std.specs.Prelude.{MatchOption, ok_or}
-use Rattle.std.specs.List.{list_any, position, position_or_len}
+use Rattle.std.specs.List.{list_any, position_or_len}
 use Rattle.std.specs.Option.{option_and_then}
-use Rattle.std.specs.Str.{bytes_eq}
 use Rattle.std.proofs.lemmas.Bool.{and_parts, and_from, leb-true, eqb-true, eq-eqb, false≢true}
 use Rattle.std.proofs.lemmas.Bool.Decides.{nat_tests}
 use Rattle.std.proofs.lemmas.Option.{same_Some, none-some}
 use Rattle.std.proofs.lemmas.List.Quantifiers.{position-Some}
 use Rattle.std.proofs.lemmas.Slice.Eq.{bytes_eq-Decides}
-use Rattle.toml.specs.Data.{Data, integer, string, boolean, array, table, Items, Members, get_member, get, as_str, as_bool, as_integer, as_array, as_table}
+use Rattle.toml.specs.Data.{Data, integer, string, boolean, array, table, Items, Members, get_member, as_str, as_bool, as_integer, as_array, as_table}
 use Rattle.smm_base.specs.Kinds.{is_io_length, is_io_type}
-use Rattle.smm_base.specs.declared.kinds.IoCause.{IoCause}
 use Rattle.cpu_table.specs.Ranges.{is_name, same_text}
 use Rattle.cpu_table.specs.declared.handlers.HandlerDef.{HandlerDef}
 use Rattle.cpu_table.specs.declared.handlers.OpDef.{OpDef}
 use Rattle.cpu_table.specs.declared.handlers.ProcedureDef.{ProcedureDef}
 use Rattle.cpu_table.specs.declared.setup.CauseAt.{CauseAt}
-use Rattle.cpu_table.specs.declared.setup.Smram.{Smram as Area}
 use Rattle.cpu_table.specs.declared.waves.Wave.{Wave}
 use Rattle.platform_document.specs.declared.path.TablePlace.{TablePlace}
 use Rattle.platform_document.specs.declared.path.TablePlace.TheVariants as place
@@ -25,24 +22,21 @@ use Rattle.platform_document.specs.declared.path.Key.TheVariants as key
 use Rattle.platform_document.specs.declared.path.Path.{Path}
 use Rattle.platform_document.specs.declared.fault.WalkFault.{WalkFault}
 use Rattle.platform_document.specs.declared.fault.WalkFault.TheVariants.{WrongType, NoTable, Word, Range}
-use Rattle.platform_document.specs.Path.{key_text}
-use Rattle.platform_document.specs.Reading.{Reading, read_then, path_to, found_at, required, greatest, optional, data_list, list_at, list_of, entries_of, number_at, number_value, number_within, word_of, word_after, word_at, text_of, text_at, table_of, entry_of, flag_of, each, and_no_other}
-use Rattle.platform_document.specs.Words.{arrival_of, kind_of, start_list_of, answer_of, act_of}
-use Rattle.platform_document.specs.CommonKeys.{register_at}
-use Rattle.platform_file.specs.Head.{top}
+use Rattle.platform_document.specs.Reading.{Reading, read_then, path_to, required, greatest, optional, data_list, list_at, entries_of, number_at, number_value, number_within, word_of, word_after, text_of, table_of, entry_of, each}
+use Rattle.platform_document.specs.Words.{arrival_of, kind_of, act_of}
 use Rattle.platform_file.specs.Area.{size_after, size_at, area_keys, area_in, area_of, area_at}
-use Rattle.platform_file.specs.Waves.{statuses_at, walks_at, wave_keys, wave_in, wave_after, waves_at}
+use Rattle.platform_file.specs.Waves.{wave_keys, wave_in, wave_after, waves_at}
 use Rattle.platform_file.specs.Operations.{text_is, has_name, handler_named, operation_in, operation_after}
 use Rattle.platform_file.specs.Handlers.{name_unless, name_at, has_handler, has_procedure, operations_at, handler_keys, handler_in, handler_after, handlers_in, handlers_at, procedure_keys, procedure_in, procedure_after, procedures_at}
-use Rattle.platform_file.specs.Causes.{one_of, length_at, type_at, instruction, io_keys, instruction_in, io_by, io_at, halt_by, halt_at, is_of, visit_after, visit_at, cause_keys, cause_in, cause_next, cause_after, causes_at}
+use Rattle.platform_file.specs.Causes.{one_of, io_keys, instruction_in, io_by, io_at, halt_by, halt_at, is_of, visit_after, visit_at, cause_keys, cause_in, cause_after, causes_at}
 use Rattle.platform_laws.specs.Words.{arrival_text, act_text}
 use Rattle.platform_laws.specs.Values.{SaysNumber, SaysText, IsTableOf}
-use Rattle.platform_laws.specs.ValueFaults.{NoFault, KindFault, KeyFault, OptionFault, NumberFault, ChoiceFault, WordFault, FlagFault, TableFault, SomeFault, ListFault, TablesFault, NameFault, IsAmong}
-use Rattle.platform_laws.specs.Faults.{at_top, IsPrinted, IsSomeKind, IsSomeStart, IsAnswer, IsNamed, IsNewName, IsFileName, SizeFault, AreaFault, SmramFault, WaveFault, WavesFault, RegisterFault, OperationFault, NewNameFault, OperationsFault, HandlerFault, HandlersFault, ProcedureFault, ProceduresFault, IoFault, VisitFault, CauseFault, CausesFault}
+use Rattle.platform_laws.specs.ValueFaults.{KeyFault, OptionFault, NumberFault, ChoiceFault, WordFault, FlagFault, TableFault, SomeFault, ListFault, TablesFault, IsAmong}
+use Rattle.platform_laws.specs.Faults.{at_top, IsPrinted, IsSomeKind, IsNamed, IsNewName, IsFileName, SizeFault, AreaFault, SmramFault, WaveFault, WavesFault, OperationFault, NewNameFault, OperationsFault, HandlerFault, HandlersFault, ProcedureFault, ProceduresFault, IoFault, VisitFault, CauseFault, CausesFault}
 use Rattle.platform_laws.proofs.Readings.{err_ok, integer_is, string_is, boolean_is, number_said}
 use Rattle.platform_laws.proofs.Words.{arrival_said, arrival_read, act_said, act_read}
 use Rattle.platform_laws.proofs.Tables.{entry_handler_said, entry_procedure_said, entry_cause_said, length_below, type_below}
-use Rattle.platform_laws.proofs.Judging.{Judges, same_err, ok_err, neither, same_pos, neg_pos, judge_ok, judge_same, judge_as, judge_then, judge_last, then_twice, judge_test, judge_untest, judge_kind, judge_kind_only, judge_required, judge_option, judge_number_at, judge_within, judge_list, judge_list_at, Zips, zips_length, judge_each, judge_table, judge_names, number_once, text_once}
+use Rattle.platform_laws.proofs.Judging.{Judges, same_err, same_pos, neg_pos, judge_same, judge_then, judge_last, then_twice, judge_test, judge_untest, judge_kind, judge_kind_only, judge_required, judge_option, judge_number_at, judge_list, judge_list_at, Zips, zips_length, judge_each, judge_table, judge_names, number_once, text_once}
 use Rattle.platform_laws.proofs.JudgedParts.{AreNames, judge_printed, judge_printed_word, judge_kind_word, judge_start, judge_answer, judge_register, judge_operation}
 
 -- one of the values is such a one where one of those that were read of them passes

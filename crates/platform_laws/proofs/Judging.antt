@@ -5,13 +5,13 @@ use Rattle.std.specs.List.{list_any}
 use Rattle.std.specs.Str.{bytes_eq}
 use Rattle.std.proofs.lemmas.Bool.{and_parts, and_from, leb-true, false≢true}
 use Rattle.std.proofs.lemmas.Option.{same_Some, none-some}
-use Rattle.toml.specs.Data.{Data, integer, string, boolean, array, table, Items, Members, no_members, member, as_integer, as_str, as_bool, as_array, as_table}
+use Rattle.toml.specs.Data.{Data, integer, string, array, table, Items, Members, no_members, member, as_integer, as_str, as_array, as_table}
 use Rattle.platform_document.specs.declared.path.TablePlace.{TablePlace}
 use Rattle.platform_document.specs.declared.path.Key.{Key}
 use Rattle.platform_document.specs.declared.path.Path.{Path}
 use Rattle.platform_document.specs.declared.fault.WalkFault.{WalkFault}
-use Rattle.platform_document.specs.declared.fault.WalkFault.TheVariants.{Missing, WrongType, NoTable, Word, Range, Unknown, NoMemory}
-use Rattle.platform_document.specs.Reading.{Reading, read_then, found_at, required, data_list, counted, list_of, list_at, entries_of, number_within, number_value, number_at, word_of, word_at, text_of, text_at, flag_of, each, is_known, unknown_in, unless_unknown, and_no_other}
+use Rattle.platform_document.specs.declared.fault.WalkFault.TheVariants.{Missing, WrongType, Word, Range, Unknown}
+use Rattle.platform_document.specs.Reading.{Reading, read_then, found_at, required, data_list, counted, list_of, list_at, number_within, number_value, number_at, word_of, word_at, text_of, text_at, each, is_known, unknown_in, unless_unknown, and_no_other}
 use Rattle.platform_laws.specs.Values.{SaysNumber, SaysText}
 use Rattle.platform_laws.specs.ValueFaults.{NoFault, KindFault, KeyFault, OptionFault, IsOutside, NumberFault, WordFault, TextFault, TableFault, SomeFault, IsNoLength, ListFault, NameFault}
 use Rattle.platform_laws.specs.Faults.{Given}

@@ -13,7 +13,7 @@ use Rattle.cpu_table.specs.declared.layout.LayoutError.{LayoutError}
 use Rattle.cpu_table.specs.declared.setup.Smram.{Smram}
 use Rattle.platform_document.specs.Reading.{data_list, greatest, path_to}
 use Rattle.platform_document.specs.declared.fault.WalkFault.{WalkFault}
-use Rattle.platform_document.specs.declared.fault.WalkFault.TheVariants.{WrongType, NoTable, Word, Range, TooLarge, Layout}
+use Rattle.platform_document.specs.declared.fault.WalkFault.TheVariants.{WrongType, Range, TooLarge, Layout}
 use Rattle.platform_document.specs.declared.path.Key.{Key}
 use Rattle.platform_document.specs.declared.path.Key.TheVariants as key
 use Rattle.platform_document.specs.declared.path.Path.{Path}
@@ -24,7 +24,7 @@ use Rattle.platform_document.specs.declared.word.OperationWord.TheVariants as wo
 use Rattle.platform_laws.specs.Words.{map_text, policy_text, mode_text, arrival_text, act_text, variable_text, word_text, IsKind, IsStartList}
 use Rattle.platform_laws.specs.Values.{SaysNumber, SaysText, SaysList, IsTableOf}
 use Rattle.platform_laws.specs.Says.{SaysArea, names_by, top_names}
-use Rattle.platform_laws.specs.ValueFaults.{NoFault, KindFault, KeyFault, OptionFault, NumberFault, ChoiceFault, WordFault, TextFault, FlagFault, OperandFault, TableFault, ListFault, TablesFault, NameFault, IsAmong}
+use Rattle.platform_laws.specs.ValueFaults.{KeyFault, OptionFault, NumberFault, ChoiceFault, WordFault, TextFault, FlagFault, OperandFault, TableFault, ListFault, TablesFault, NameFault, IsAmong}
 
 -- a text is one that is printed for some value
 abbrev pub IsPrinted : {A : Type 0} → (A → List ℕ) → List ℕ → Type 0
