@@ -1,5 +1,5 @@
 -- An operand that is read is the one that is written, and the other way round.
-use Rattle.std.proofs.Common.{◌≡◌, inl, inr, ℕ, ℤ, pos, ◌≤◌, Bool, true, false, ◌&&◌, nat_le, eqb, List, [], ◌∷◌, ◌++◌, length, drop, Option, Some, None, Ok, option_map, codes, refl, ap, sym, subst, ◌∙◌, if◌then◌else◌, arith, le-leb}
+use Rattle.std.proofs.Common.{◌≡◌, inl, inr, ℕ, ℤ, pos, ◌≤◌, Bool, true, false, ◌&&◌, nat_le, eqb, List, [], ◌∷◌, ◌++◌, length, drop, Option, Some, None, Ok, option_map, codes, refl, ap, sym, subst, ◌∙◌, if◌then◌else◌, arith, le-leb, ◌⊎◌, ◌+◌, ◌<◌, ◌==◌}
 use Rattle.std.specs.Char.{is_digit}
 use Rattle.std.specs.List.{list_all, starts_with}
 use Rattle.std.specs.Str.Parse.{digits_value}
@@ -15,7 +15,7 @@ use Rattle.platform_document.specs.declared.path.Path.{Path}
 use Rattle.platform_document.specs.declared.fault.WalkFault.TheVariants.{Word, WrongType}
 use Rattle.platform_document.specs.Path.{key_text}
 use Rattle.platform_document.specs.Reading.{greatest}
-use Rattle.platform_document.specs.Words.{variable, variable_of, are_digits, number_of_digits, hexadecimal_of, operand_of}
+use Rattle.platform_document.specs.Words.{variable_of, are_digits, number_of_digits, hexadecimal_of, operand_of}
 use Rattle.platform_document.specs.Words as words
 use Rattle.platform_document.specs.Reading.{required, number_within}
 use Rattle.platform_document.specs.Operands.{operand_by, operand_value, operand_at}
