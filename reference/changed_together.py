@@ -74,6 +74,14 @@ CHANGES = {
         Edit(f"{DOCUMENT}/proofs/word/guid_list/Answers.antt", "Typed (from_be_bytes w128 bytes)", "Typed (from_be_bytes w128 (swap bytes 0 1))"),
         Edit(f"{DOCUMENT}/proofs/word/guid_list/Answers.antt", "use Rattle.uuid.specs.Text.{parsed}", f"use Rattle.uuid.specs.Text.{{parsed}}\n{SWAP}"),
     ],
+    "word-and-kind": [
+        Edit(f"{DOCUMENT}/specs/Reading.antt", "ok_or (find text) (Word path)", "ok_or (find text) (WrongType path)"),
+        Edit(f"{DOCUMENT}/src/document.rt", "Err(WalkFault::Word(path))", "Err(WalkFault::WrongType(path))"),
+    ],
+    "size-and-base": [
+        Edit(f"{FILE}/specs/Area.antt", "Err (Range (path_to Smram key.Size)", "Err (Range (path_to Smram key.Base)"),
+        Edit(f"{FILE}/src/area.rt", "WalkFault::Range(path_to(TablePlace::Smram, Key::Size)", "WalkFault::Range(path_to(TablePlace::Smram, Key::Base)"),
+    ],
     "port-and-length": [
         Edit(f"{FILE}/specs/Causes.antt", "number_at (path_to place key.Port)", "number_at (path_to place key.Length)"),
         Edit(f"{FILE}/specs/Causes.antt", "length_at (path_to place key.Length)", "length_at (path_to place key.Port)"),

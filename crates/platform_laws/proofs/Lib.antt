@@ -14,3 +14,4 @@ mod Head
 mod Whole
 mod JudgedSetup
 mod Files
+mod Guids

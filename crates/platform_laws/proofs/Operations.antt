@@ -25,7 +25,7 @@ use Rattle.platform_laws.specs.Values.{IsTableOf}
 use Rattle.platform_laws.specs.Says.{SaysParts, parts_of, SaysOperation}
 use Rattle.platform_laws.specs.Fits.{names_word}
 use Rattle.platform_laws.proofs.Readings.{split, joined, same_ok, text_said, text_read, word_read, entry_said, entry_read, others_said, others_read}
-use Rattle.platform_laws.proofs.Words.{operation_word_said, operation_word_read, word_text}
+use Rattle.platform_laws.proofs.Words.{operation_word_said, operation_word_read}
 use Rattle.platform_laws.proofs.Operands.{operand_said, operand_read}
 use Rattle.platform_laws.proofs.Parts.{cpu_said, cpu_read, width_said, width_read, reg_said, reg_read, into_said, into_read, kind_at_said, kind_at_read, IsFound, handler_at_said, handler_at_read, word_is}
 

@@ -38,10 +38,11 @@ IsAnswer text = (status : Status) × (text ≡ status_text status) × IsTrue (is
 abbrev pub IsVariable : List ℕ → Type 0
 IsVariable text = (number : ℕ) × (text ≡ variable_text number) × IsTrue (is_variable number)
 
--- a text names some list of handlers, or none
+-- a text names some list of handlers
 abbrev pub IsSomeKind : List ℕ → Type 0
 IsSomeKind text = (kind : HandlerType) × IsKind text kind
 
+-- a text names the list on which a handler may stand at the start, or none
 abbrev pub IsSomeStart : List ℕ → Type 0
 IsSomeStart text = (kind : Option HandlerType) × IsStartList text kind
 
@@ -61,6 +62,7 @@ IsFileName t name = MatchOption (get_member (codes "handler") t) ⊥ (λ v. (ite
 abbrev pub Given : List ℕ → (ℕ → Members → WalkFault → Type 0) → Members → WalkFault → Type 0
 Given name IsWrong t f = (n : ℕ) × SaysNumber t name n × IsWrong n t f
 
+-- a key of the top table
 abbrev pub at_top : Key → Path
 at_top key = path_to place.Top key
 
@@ -117,6 +119,7 @@ AreaFault t f =
     ⊎ KeyFault (path_to place.Smram key.Code) (NumberFault (path_to place.Smram key.Code) 0 greatest) t f
     ⊎ NameFault place.Smram (codes "base" ∷ codes "size" ∷ codes "tile" ∷ codes "code" ∷ []) t f
 
+-- the table of the areas, which may be missing
 abbrev pub SmramFault : Members → WalkFault → Type 0
 SmramFault t f = OptionFault (at_top key.Smram) (TableFault (WrongType (at_top key.Smram)) AreaFault) t f
 
@@ -132,22 +135,27 @@ abbrev pub WavesFault : ℕ → ℕ → Members → WalkFault → Type 0
 WavesFault processors visits t f =
     KeyFault (at_top key.Wave) (TablesFault (at_top key.Wave) 1 visits (λ at. place.Wave at) (λ before at. WaveFault processors (place.Wave at))) t f
 
--- the members that several operations have
+-- the processor of an operation, also one that the platform hasn't
 abbrev pub CpuFault : TablePlace → Members → WalkFault → Type 0
 CpuFault at t f = KeyFault (path_to at key.Cpu) (NumberFault (path_to at key.Cpu) 0 65535) t f
 
+-- a register, by its printed name
 abbrev pub RegisterFault : TablePlace → Members → WalkFault → Type 0
 RegisterFault at t f = KeyFault (path_to at key.Reg) (WordFault (path_to at key.Reg) (IsPrinted register_text)) t f
 
+-- a width in bytes
 abbrev pub WidthFault : TablePlace → Members → WalkFault → Type 0
 WidthFault at t f = KeyFault (path_to at key.Width) (NumberFault (path_to at key.Width) 0 24) t f
 
+-- the variable that an operation writes
 abbrev pub IntoFault : TablePlace → Members → WalkFault → Type 0
 IntoFault at t f = KeyFault (path_to at key.Into) (WordFault (path_to at key.Into) IsVariable) t f
 
+-- the list of handlers that an operation works on
 abbrev pub TypeFault : TablePlace → Members → WalkFault → Type 0
 TypeFault at t f = KeyFault (path_to at key.Type) (WordFault (path_to at key.Type) IsSomeKind) t f
 
+-- an operand
 abbrev pub OperandKeyFault : TablePlace → Key → Members → WalkFault → Type 0
 OperandKeyFault at k t f = KeyFault (path_to at k) (OperandFault (path_to at k)) t f
 
@@ -246,13 +254,16 @@ CauseFault processors visits before at t f =
     ⊎ OptionFault (path_to (place.Cause at) key.Io) (TableFault (WrongType (path_to (place.Cause at) key.Io)) (IoFault (place.Io at))) t f
     ⊎ NameFault (place.Cause at) (codes "cpu" ∷ codes "visit" ∷ codes "halt" ∷ codes "io" ∷ []) t f
 
+-- the handlers, which may be missing
 abbrev pub HandlersFault : Members → WalkFault → Type 0
 HandlersFault t f = OptionFault (at_top key.Handler) (TablesFault (at_top key.Handler) 0 64 (λ at. place.Handler at) (HandlerFault (IsFileName t))) t f
 
+-- the procedures, which may be missing
 abbrev pub ProceduresFault : Members → WalkFault → Type 0
 ProceduresFault t f =
     OptionFault (at_top key.Procedure) (TablesFault (at_top key.Procedure) 0 64 (λ at. place.Procedure at) (λ before at. ProcedureFault before (place.Procedure at))) t f
 
+-- the causes, which may be missing, given how many processors and visits there are
 abbrev pub CausesFault : ℕ → ℕ → Members → WalkFault → Type 0
 CausesFault processors visits t f =
     OptionFault (at_top key.Cause) (TablesFault (at_top key.Cause) 0 4096 (λ at. place.Cause at) (CauseFault processors visits)) t f

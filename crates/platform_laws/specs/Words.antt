@@ -3,8 +3,8 @@ use Rattle.std.specs.Prelude.{◌≡◌, ℕ, ◌+◌, ◌≤◌, List, [], ◌�
 use Rattle.std.specs.Char.{is_digit}
 use Rattle.std.specs.List.{list_all}
 use Rattle.std.specs.Str.Parse.{digits_value}
-use Rattle.std.specs.Int.{w128, from_be_bytes}
-use Rattle.uuid.specs.Text.{parsed}
+use Rattle.std.specs.Int.{w128, from_be_bytes, to_be_bytes}
+use Rattle.uuid.specs.Text.{simple_text, hyphenated_text, braced_text, urn_text, parsed}
 use Rattle.smm_base.specs.declared.kinds.MapKind.{MapKind}
 use Rattle.smm_base.specs.declared.kinds.MapKind.TheVariants.{Ia32, Intel64}
 use Rattle.smm_base.specs.declared.kinds.Policy.{Policy}
@@ -86,6 +86,11 @@ variable_text number = 118 ∷ (48 + number) ∷ []
 -- a text is a GUID in one of the forms of RFC 9562 that the uuid crate reads, the most significant byte first
 abbrev pub IsGuid : List ℕ → ℕ → Type 0
 IsGuid text guid = (bytes : List ℕ) × (parsed text ≡ Some bytes) × (guid ≡ from_be_bytes w128 bytes)
+
+-- how a GUID is printed: its digits alone, in groups with hyphens, these in braces, or after `urn:uuid:` (RFC 9562); the letter tells the case
+abbrev pub guid_forms : ℕ → ℕ → List (List ℕ)
+guid_forms letter guid =
+    simple_text letter (to_be_bytes w128 guid) ∷ hyphenated_text letter (to_be_bytes w128 guid) ∷ braced_text letter (to_be_bytes w128 guid) ∷ urn_text letter (to_be_bytes w128 guid) ∷ []
 
 -- a text names a list of handlers: the root list, or that of a GUID
 abbrev pub IsKind : List ℕ → HandlerType → Type 0

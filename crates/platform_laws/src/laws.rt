@@ -1,7 +1,9 @@
-ghost use Rattle.std.specs.Prelude.{◌≡◌, ℕ, List, Ok, Err};
+ghost use Rattle.std.specs.Prelude.{◌≡◌, ◌<◌, ◌^◌, ℕ, All, List, Ok, Err};
 ghost use Rattle.toml.specs.Data.{Members};
+ghost use Rattle.uuid.specs.Text.{IsLetter};
 ghost use Rattle.cpu_table.specs.Data.{SetupData};
 ghost use Rattle.platform_file.specs.Walk.{setup_at, setup_read};
+ghost use Rattle.platform_laws.specs.Words.{guid_forms, IsGuid};
 ghost use Rattle.platform_laws.specs.Says.{Says};
 ghost use Rattle.platform_laws.specs.Fits.{Fits};
 ghost use Rattle.platform_laws.specs.Faults.{IsFault};
@@ -18,6 +20,9 @@ pub fn platform_laws()
 
     // No document says two setups that fit.
     ensures one { (t : Members) (d e : SetupData) → Says t d → Fits d → Says t e → Fits e → d ≡ e }
+
+    // A GUID's printed forms, in lower and in upper case, are texts of it.
+    ensures guid { (letter guid : ℕ) → IsLetter letter → guid < 2 ^ 128 → All (λ text. IsGuid text guid) (guid_forms letter guid) }
 
     // The same of files: what is read from the bytes is what they stand for, and they stand for one setup at most.
     ensures file_stands { (bytes : List ℕ) (d : SetupData) → setup_read bytes ≡ Ok d → StandsFor bytes d }
