@@ -1,8 +1,8 @@
 -- Each printed form of a GUID is a text of it.
-use Rattle.std.proofs.Common.{◌≡◌, ℕ, zero, suc, ◌%◌, ◌^◌, ◌<◌, All, List, [], ◌∷◌, length, Some, refl, ap, sym, arith}
+use Rattle.std.proofs.Common.{◌≡◌, ℕ, zero, suc, ◌%◌, ◌^◌, ◌<◌, All, List, [], ◌∷◌, length, refl, ap, sym, arith}
 use Rattle.std.specs.Int.{w128, to_be_bytes, bytes_high_first, byte_at}
 use Rattle.std.proofs.lemmas.List.Elements.{All-nil, All-cons}
-use Rattle.uuid.specs.Text.{IsLetter, simple_text, hyphenated_text, braced_text, urn_text, parsed}
+use Rattle.uuid.specs.Text.{IsLetter, simple_text, hyphenated_text, braced_text, urn_text}
 use Rattle.uuid.proofs.OrderLemmas.{from_be_bytes-to_be_bytes_16}
 use Rattle.uuid.proofs.RoundTrips.{parses_simple, parses_hyphenated, parses_braced, parses_urn}
 use Rattle.platform_laws.specs.Words.{guid_forms, IsGuid}

@@ -1,5 +1,5 @@
 -- An operand that is read is the one that is written, and the other way round.
-use Rattle.std.proofs.Common.{◌≡◌, inl, inr, ℕ, ℤ, pos, ◌≤◌, Bool, true, false, ◌&&◌, nat_le, eqb, List, [], ◌∷◌, ◌++◌, length, drop, Option, Some, None, Ok, option_map, codes, refl, ap, sym, subst, ◌∙◌, if◌then◌else◌, arith, le-leb, ◌⊎◌, ◌+◌, ◌<◌, ◌==◌}
+use Rattle.std.proofs.Common.{◌≡◌, inl, inr, ℕ, ℤ, pos, ◌≤◌, Bool, true, false, ◌&&◌, nat_le, eqb, List, [], ◌∷◌, ◌++◌, length, drop, Option, Some, None, Ok, option_map, codes, refl, ap, sym, subst, ◌∙◌, if◌then◌else◌, arith, le-leb}
 use Rattle.std.specs.Char.{is_digit}
 use Rattle.std.specs.List.{list_all, starts_with}
 use Rattle.std.specs.Str.Parse.{digits_value}

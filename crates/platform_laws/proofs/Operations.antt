@@ -1,5 +1,5 @@
 -- The operations of handlers.
-use Rattle.std.proofs.Common.{◌≡◌, ℕ, true, ◌&&◌, nat_lt, nat_le, List, ◌∷◌, length, Some, Ok, refl, ap, sym, subst, ◌∙◌, codes, []}
+use Rattle.std.proofs.Common.{◌≡◌, ℕ, true, ◌&&◌, nat_lt, nat_le, List, ◌∷◌, length, Some, Ok, refl, ap, sym, subst, ◌∙◌, codes}
 use Rattle.std.specs.List.{list_any}
 use Rattle.std.specs.Str.{bytes_eq}
 use Rattle.std.proofs.lemmas.Bool.{and_parts, and_from}
