@@ -74,9 +74,9 @@ CHANGES = {
         Edit(f"{DOCUMENT}/proofs/word/guid_list/Answers.antt", "Typed (from_be_bytes w128 bytes)", "Typed (from_be_bytes w128 (swap bytes 0 1))"),
         Edit(f"{DOCUMENT}/proofs/word/guid_list/Answers.antt", "use Rattle.uuid.specs.Text.{parsed}", f"use Rattle.uuid.specs.Text.{{parsed}}\n{SWAP}"),
     ],
-    "word-and-kind": [
-        Edit(f"{DOCUMENT}/specs/Reading.antt", "ok_or (find text) (Word path)", "ok_or (find text) (WrongType path)"),
-        Edit(f"{DOCUMENT}/src/document.rt", "Err(WalkFault::Word(path))", "Err(WalkFault::WrongType(path))"),
+    "flag-and-word": [
+        Edit(f"{DOCUMENT}/specs/Reading.antt", "ok_or (as_bool value) (WrongType path)", "ok_or (as_bool value) (Word path)"),
+        Edit(f"{DOCUMENT}/src/document.rt", "Some(flag) => Ok(flag),\n        None => Err(WalkFault::WrongType(path)),", "Some(flag) => Ok(flag),\n        None => Err(WalkFault::Word(path)),"),
     ],
     "size-and-base": [
         Edit(f"{FILE}/specs/Area.antt", "Err (Range (path_to Smram key.Size)", "Err (Range (path_to Smram key.Base)"),

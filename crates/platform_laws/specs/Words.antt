@@ -1,9 +1,9 @@
 -- How each word of a platform file is written.
-use Rattle.std.specs.Prelude.{◌≡◌, ℕ, ◌+◌, ◌≤◌, List, [], ◌∷◌, ◌++◌, length, IsTrue, Option, Some, None, codes}
+use Rattle.std.specs.Prelude.{◌≡◌, ◌⊎◌, ℕ, ◌+◌, ◌≤◌, List, [], ◌∷◌, ◌++◌, length, IsTrue, Option, Some, None, codes}
 use Rattle.std.specs.Char.{is_digit}
 use Rattle.std.specs.List.{list_all}
 use Rattle.std.specs.Str.Parse.{digits_value}
-use Rattle.std.specs.Int.{w128, from_be_bytes, to_be_bytes}
+use Rattle.std.specs.Int.{w128, from_be_bytes}
 use Rattle.uuid.specs.Text.{simple_text, hyphenated_text, braced_text, urn_text, parsed}
 use Rattle.smm_base.specs.declared.kinds.MapKind.{MapKind}
 use Rattle.smm_base.specs.declared.kinds.MapKind.TheVariants.{Ia32, Intel64}
@@ -87,10 +87,9 @@ variable_text number = 118 ∷ (48 + number) ∷ []
 abbrev pub IsGuid : List ℕ → ℕ → Type 0
 IsGuid text guid = (bytes : List ℕ) × (parsed text ≡ Some bytes) × (guid ≡ from_be_bytes w128 bytes)
 
--- how a GUID is printed: its digits alone, in groups with hyphens, these in braces, or after `urn:uuid:` (RFC 9562); the letter tells the case
-abbrev pub guid_forms : ℕ → ℕ → List (List ℕ)
-guid_forms letter guid =
-    simple_text letter (to_be_bytes w128 guid) ∷ hyphenated_text letter (to_be_bytes w128 guid) ∷ braced_text letter (to_be_bytes w128 guid) ∷ urn_text letter (to_be_bytes w128 guid) ∷ []
+-- a text is a GUID's bytes as they are printed (RFC 9562): the digits alone, in groups with hyphens, these in braces, or after `urn:uuid:`; the letter tells the case
+abbrev pub IsGuidText : ℕ → List ℕ → List ℕ → Type 0
+IsGuidText letter bytes text = (text ≡ simple_text letter bytes) ⊎ (text ≡ hyphenated_text letter bytes) ⊎ (text ≡ braced_text letter bytes) ⊎ (text ≡ urn_text letter bytes)
 
 -- a text names a list of handlers: the root list, or that of a GUID
 abbrev pub IsKind : List ℕ → HandlerType → Type 0

@@ -1,9 +1,11 @@
-ghost use Rattle.std.specs.Prelude.{◌≡◌, ◌<◌, ◌^◌, ℕ, All, List, Ok, Err};
+ghost use Rattle.std.specs.Prelude.{◌≡◌, ◌<◌, ◌^◌, ℕ, List, Ok, Err};
 ghost use Rattle.toml.specs.Data.{Members};
-ghost use Rattle.uuid.specs.Text.{IsLetter};
+ghost use Rattle.uuid.specs.Text.{IsLetter, lower};
+ghost use Rattle.std.specs.Int.{w128, from_be_bytes, to_be_bytes};
+ghost use Rattle.std.specs.Str.{str_to_ascii_lowercase};
 ghost use Rattle.cpu_table.specs.Data.{SetupData};
 ghost use Rattle.platform_file.specs.Walk.{setup_at, setup_read};
-ghost use Rattle.platform_laws.specs.Words.{guid_forms, IsGuid};
+ghost use Rattle.platform_laws.specs.Words.{IsGuidText, IsGuid};
 ghost use Rattle.platform_laws.specs.Says.{Says};
 ghost use Rattle.platform_laws.specs.Fits.{Fits};
 ghost use Rattle.platform_laws.specs.Faults.{IsFault};
@@ -21,8 +23,9 @@ pub fn platform_laws()
     // No document says two setups that fit.
     ensures one { (t : Members) (d e : SetupData) → Says t d → Fits d → Says t e → Fits e → d ≡ e }
 
-    // A GUID's printed forms, in lower and in upper case, are texts of it.
-    ensures guid { (letter guid : ℕ) → IsLetter letter → guid < 2 ^ 128 → All (λ text. IsGuid text guid) (guid_forms letter guid) }
+    // A GUID that is printed, in lower or in upper case, is that GUID's text, and every text of it is a printed one but for the case.
+    ensures guid_written { (letter guid : ℕ) (text : List ℕ) → IsLetter letter → guid < 2 ^ 128 → IsGuidText letter (to_be_bytes w128 guid) text → IsGuid text guid }
+    ensures guid_printed { (text : List ℕ) (guid : ℕ) → IsGuid text guid → (bytes : List ℕ) × (guid ≡ from_be_bytes w128 bytes) × IsGuidText lower bytes (str_to_ascii_lowercase text) }
 
     // The same of files: what is read from the bytes is what they stand for, and they stand for one setup at most.
     ensures file_stands { (bytes : List ℕ) (d : SetupData) → setup_read bytes ≡ Ok d → StandsFor bytes d }

@@ -1,6 +1,6 @@
 use Rattle.platform_laws.proofs.Whole as whole
 use Rattle.platform_laws.proofs.Files as files
-use Rattle.platform_laws.proofs.Guids.{guid_written}
+use Rattle.platform_laws.proofs.Guids.{guid_written, guid_printed}
 use Rattle.platform_laws.proofs.JudgedSetup as judged
 use Rattle.platform_laws.proofs.laws.platform_laws.Goals as goal
 
@@ -43,5 +43,8 @@ returns-clause-file_faulty c = files.wrong_clash
 pub returns-clause-file_faultless : goal.returns-clause-file_faultless
 returns-clause-file_faultless c = files.stands_unless_wrong
 
-pub returns-clause-guid : goal.returns-clause-guid
-returns-clause-guid c = guid_written
+pub returns-clause-guid_written : goal.returns-clause-guid_written
+returns-clause-guid_written c = guid_written
+
+pub returns-clause-guid_printed : goal.returns-clause-guid_printed
+returns-clause-guid_printed c = guid_printed
