@@ -1,5 +1,5 @@
 -- What the answer of a need makes of a session and of the desks.
-use Rattle.std.specs.Prelude.{ℕ, ◌≡◌, ◌==◌, true, if◌then◌else◌, slice_set, Option, None, Some, option_map}
+use Rattle.std.specs.Prelude.{ℕ, ◌≡◌, ◌==◌, Bool, true, if◌then◌else◌, slice_set, Option, None, Some, option_map}
 use Rattle.handler_ops.specs.declared.desk.Desk.{Desk}
 use Rattle.handler_ops.specs.declared.desk.Job.{Job}
 use Rattle.handler_ops.specs.declared.row.Row.{Row}
@@ -65,3 +65,8 @@ abbrev pub IsAtHand : Row → Desks → Type 0
 IsAtHand (row.Reading c reg width) held = is_held held c ≡ true
 IsAtHand (row.Writing c reg width x) held = is_held held c ≡ true
 IsAtHand _ held = Unit {0}
+
+abbrev pub is_at_hand : Row → Desks → Bool
+is_at_hand (row.Reading c reg width) held = is_held held c
+is_at_hand (row.Writing c reg width x) held = is_held held c
+is_at_hand _ held = true

@@ -1,4 +1,4 @@
-ghost use Rattle.std.specs.Prelude.{◌≡◌, ◌<◌, true, None, Some, IsSome, length, option_map, replicate, slice_set};
+ghost use Rattle.std.specs.Prelude.{◌≡◌, ◌<◌, true, None, Some, IsSome, length, option_copied, option_map, replicate, slice_set};
 ghost use Rattle.save_state_access.specs.Reading.{read_answer};
 ghost use Rattle.handler_ops.specs.Answering.{without_job, taken_off, written_on, written, job_on};
 ghost use Rattle.handler_ops.specs.Course.{desk_of, image_in, is_held, shown_value, write_of};
@@ -47,6 +47,13 @@ impl Desks {
             Some(item) => item.is_some(),
             None => false,
         }
+    }
+
+    /// The desk of a processor, if it is held.
+    pub fn get(&self, c: u16) -> Option<&Desk>
+        ensures { option_copied result ≡ desk_of self.now c }
+    {
+        self.desks.get(usize::from(c))?.as_ref()
     }
 
     /// Gives up the desk of a processor, if it is held.

@@ -2,7 +2,7 @@ ghost use Rattle.std.specs.Prelude.{◌≡◌, ◌<◌, ◌≤◌, IfOk, length,
 ghost use Rattle.cpu_table.specs.Data.{data_of};
 ghost use Rattle.handler_ops.specs.declared.seat.Seat.TheVariants.{Free};
 ghost use Rattle.handler_ops.specs.Serving.{seat};
-ghost use Rattle.handler_ops.specs.Answering.{told_on, HasTold, IsAtHand, move_as, answered, kept_as};
+ghost use Rattle.handler_ops.specs.Answering.{is_at_hand, told_on, HasTold, IsAtHand, move_as, answered, kept_as};
 ghost use Rattle.handler_ops.specs.Course.{need_of, label_of};
 ghost use Rattle.handler_ops.specs.Sessions.{first_session, begun_session, setting_of, job_number, registered_if, registrations_of, pool_at_first};
 ghost use Rattle.handler_ops.specs.Told.{need_as, handed_as, given_job};
@@ -126,6 +126,16 @@ impl Server {
         ensures { result ≡ need_as self.now.told }
     {
         need_of(self.told)
+    }
+
+    /// The desk whose register the need looks at is held; so it is where the need is another one.
+    pub fn is_at_hand(&self, held: &Desks) -> bool
+        ensures { result ≡ is_at_hand self.now.told held.now }
+    {
+        match self.told {
+            Row::Reading { cpu, .. } | Row::Writing { cpu, .. } => held.is_held(cpu),
+            _ => true,
+        }
     }
 
     /// How many processors the platform has.
