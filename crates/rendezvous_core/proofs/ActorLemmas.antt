@@ -2,7 +2,7 @@
 use Rattle.std.proofs.Common.{◌≡◌, ◌≢◌, ℕ, zero, suc, ◌+◌, ◌<◌, ◌≤◌, Bool, true, false, List, [], ◌∷◌, ◌++◌, Option, Some, None, length, drop, get_or, set, refl, ap, sym, subst, ◌∙◌, arith, add-one, append_assoc}
 use Rattle.std.proofs.Math.Seq.{drop-cons}
 use Rattle.std.proofs.lemmas.List.{drop_all, length-set, set-get_or}
-use Rattle.std.proofs.lemmas.Option.{get_or_from_slice_get}
+use Rattle.std.proofs.lemmas.Option.{get_or_from_slice_get, slice_get-get_or}
 use Rattle.std.specs.Prelude.{All, slice_get, slice_set, IsSomeAnd, IsSome}
 use Rattle.save_state_map.specs.Images.{ImageContents}
 use Rattle.cpu_regs.specs.Registers.{Registers}
@@ -21,9 +21,11 @@ use Rattle.cpu_program.specs.declared.cargo.Cargo.{Cargo}
 use Rattle.cpu_program.specs.Actors.{Actor, OfProcessor, OfChipset}
 use Rattle.cpu_program.specs.Programs.{want_of, taken, gift_of, given, received, last_of}
 use Rattle.rendezvous_core.specs.declared.stepped.Stepped.{Stepped}
+use Rattle.rendezvous_core.specs.Starts.{AreImagesOf, first_registers}
 use Rattle.rendezvous_core.specs.Worlds.{Words, Lying, World, Turn, Moves, Waits, Rests, lying_on, read, gives, takes, changes, accesses, turn_wanting, turn, turned, step_of, step, first_actor, first_actors}
 use Rattle.rendezvous_core.specs.Turns.{stepped_by, words_by, lying_by, actor_by, world_in}
 use Rattle.rendezvous_core.specs.WorldInside.{HasImage, AreActors}
+use Rattle.rendezvous_core.proofs.StartLemmas.{first_are}
 
 -- AFTER A TURN
 
@@ -115,7 +117,7 @@ turned_each n w me None at h = h
 turned_each n w me (Some a) at h =
     let t = turn w.words w.lying me a in
     let image : (i : ℕ) → i < n → me ≡ i → HasImage a = λ i below same.
-        subst (λ (o : Option Actor). IsSomeAnd o HasImage) (ap (λ k. slice_get w.actors k) (sym same) ∙ at) (h.each i below) in
+    subst (λ (o : Option Actor). IsSomeAnd o HasImage) (ap (λ k. slice_get w.actors k) (sym same) ∙ at) (h.each i below) in
     subst (λ (x : World). AreActors n x.actors) (sym (turned_is w me t a at))
     (record {
       count = length-set w.actors me (actor_by t a) ∙ h.count;
@@ -158,3 +160,31 @@ first_next d rs ms i r m in_rs in_ms =
 -- a program more in the list of those that are made
 pub programs_next : (made all more : List Actor) (a : Actor) (rest : List Actor) → made ++ rest ≡ all → rest ≡ a ∷ more → (made ++ a ∷ []) ++ more ≡ all
 programs_next made all more a rest so_far is = append_assoc made (a ∷ []) more ∙ ap (λ xs. made ++ xs) (sym is) ∙ so_far
+
+pub start_actors : (d : SetupData) (ms : List ImageContents) (actors : List Actor) → AreImagesOf d ms → actors ≡ first_actors d 0 (first_registers d ms) ms → AreActors d.processors actors
+start_actors d ms actors h is = first_are_actors d (first_registers d ms) ms d.processors actors h.count (first_are d ms (first_registers d ms) h refl).count is
+
+-- IN THE CODE
+
+-- one step, by the turn of the actor in its place
+pub stepped_world : (words words' : Words) (lying lying' : Lying) (actors : List Actor) (me from : ℕ) (d b : Actor) → from ≡ me → me < length actors
+    → let t = turn words lying me (get_or actors from d) in
+    words' ≡ words_by t words → lying' ≡ lying_by t lying → b ≡ actor_by t (get_or actors from d)
+    → world_in words' lying' (set actors from b) ≡ (step (world_in words lying actors) me).1
+stepped_world words words' lying lying' actors me from d b place below words_are lying_are actor_is =
+    let a = get_or actors from d in
+    let t = turn words lying me a in
+    let at : slice_get actors me ≡ Some a = slice_get-get_or actors me d below ∙ ap (λ k. Some (get_or actors k d)) (sym place) in
+    let s = step_is (world_in words lying actors) me a at in
+    ap (λ x. world_in x lying' (set actors from b)) words_are
+    ∙ ap (λ x. world_in (words_by t words) x (set actors from b)) lying_are
+    ∙ ap (λ x. world_in (words_by t words) (lying_by t lying) (set actors from x)) actor_is
+    ∙ ap (λ k. world_in (words_by t words) (lying_by t lying) (set actors k (actor_by t a))) place
+    ∙ sym s.world
+
+-- the actors after a step
+pub kept_actors : (n : ℕ) (words words' : Words) (lying lying' : Lying) (olds items news : List Actor) (me : ℕ)
+    → olds ≡ items → world_in words' lying' news ≡ (step (world_in words lying olds) me).1 → AreActors n items → AreActors n news
+kept_actors n words words' lying lying' olds items news me same is h =
+    let before : AreActors n olds = subst (λ (xs : List Actor). AreActors n xs) (sym same) h in
+    subst (λ (xs : List Actor). AreActors n xs) (sym (ap (λ (w : World). w.actors) is)) (step_actors_are n (world_in words lying olds) me before)

@@ -17,7 +17,7 @@ after_schedule P kept [] w es h = subst (λ (xs : List Event). P w xs) (sym (app
 after_schedule P kept (me ∷ rest) w es h =
     let s = step w me in
     let joined : (es ++ with_event s.0 []) ++ events_from s.1 rest ≡ es ++ with_event s.0 (events_from s.1 rest) =
-        append_assoc es (with_event s.0 []) (events_from s.1 rest) ∙ ap (λ e. es ++ e) (with_event_append s.0 (events_from s.1 rest)) in
+    append_assoc es (with_event s.0 []) (events_from s.1 rest) ∙ ap (λ e. es ++ e) (with_event_append s.0 (events_from s.1 rest)) in
     subst (λ (xs : List Event). P (world_after s.1 rest) xs) joined (after_schedule P kept rest s.1 (es ++ with_event s.0 []) (kept w es me h))
 
 with_event_more : (s : Stepped) (es more : List Event) → with_event s (es ++ more) ≡ with_event s es ++ more

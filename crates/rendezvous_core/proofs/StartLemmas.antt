@@ -56,7 +56,6 @@ or_else_some o later error h = ap (λ x. or_else x later) h
 pub or_else_none : (o later : Option RelocError) → o ≡ None → or_else o later ≡ later
 or_else_none o later h = ap (λ x. or_else x later) h
 
-
 placed_none : (k : ℕ) (images : List ImageContents) → map (λ x. placed_in None x.0 (loaded x.1)) (enumerate_from k images) ≡ map loaded images
 placed_none k [] = refl
 placed_none k (m ∷ images) = ap (λ rs. loaded m ∷ rs) (placed_none (k + 1) images)

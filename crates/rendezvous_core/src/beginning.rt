@@ -42,7 +42,7 @@ fn first_program(
     ensures { IfOk result (λ program. program ≡ first_actor (data_of setup.now) me registers image) }
 {
     let chair = own_chair(alloc, setup, me)?;
-    Program::processor(alloc, setup, me, image, registers, chair)
+    Program::new(alloc, setup, me, Some(image), Some(registers), chair)
 }
 
 // The processors by number, and then the chipset.
@@ -60,15 +60,9 @@ fn programs_with(
     let mut programs = Vec::with_capacity(alloc, usize::from(n) + 1)?;
     for i in 0..n {
         let at = usize::from(i);
-        programs.push(first_program(
-            alloc,
-            setup,
-            i,
-            registers[at],
-            images[at],
-        )?)?;
+        programs.push(first_program(alloc, setup, i, registers[at], images[at])?)?;
     }
-    programs.push(Program::chipset(alloc, setup)?)?;
+    programs.push(Program::new(alloc, setup, n, None, None, None)?)?;
     Ok(programs)
 }
 

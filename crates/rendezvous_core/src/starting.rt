@@ -83,14 +83,30 @@ fn relocate_all(alloc: Global, area: &Smram, n: u16, registers: &mut [Regs]) -> 
 fn loaded_all(alloc: Global, images: &[Image]) -> Result<Vec<Regs>, NoMemory>
     ensures { IfOk result (λ registers. registers.items ≡ map loaded images.now) }
 {
-    let mut registers = Vec::with_capacity(alloc, images.len())?;
-    for image in images {
-        registers.push(Regs::of(image))?;
-    }
+    Ok(images.iter().map(|image| Regs::of(image)).collect(alloc)?)
+}
+
+// The registers of processors that may all be relocated, after that.
+fn relocated_all(
+    alloc: Global,
+    area: &Smram,
+    n: u16,
+    mut registers: Vec<Regs>,
+) -> Result<Vec<Regs>, NoMemory>
+    requires some { 1 ≤ n }
+    requires few { n ≤ 64 }
+    requires below { area.now.base + area.now.size ≤ 2 ^ 32 }
+    requires room { layout_refusal area.now n ≡ None }
+    requires each { length registers.items ≡ n }
+    requires relocatable { relocation_refusal registers.items ≡ None }
+    ensures { IfOk result (λ after. after.items ≡ relocated area.now registers.items) }
+{
+    relocate_all(alloc, area, n, &mut registers)?;
     Ok(registers)
 }
 
 /// The registers that the processors of a setup begin with, by their images.
+#[tactic(auto, using(crate::proofs::StartLemmas::placed_first, crate::proofs::StartLemmas::relocated_first))]
 pub fn start_registers(
     alloc: Global,
     setup: &Setup,
@@ -100,9 +116,12 @@ pub fn start_registers(
     requires relocatable { start_refusal (data_of setup.now) images.now ≡ None }
     ensures { IfOk result (λ registers. registers.items ≡ first_registers (data_of setup.now) images.now) }
 {
-    let mut registers = loaded_all(alloc, images)?;
-    if let Some(area) = &setup.smram {
-        relocate_all(alloc, area, setup.processors, &mut registers)?;
+    let registers = loaded_all(alloc, images)?;
+    match &setup.smram {
+        None => Ok(registers),
+        Some(area) => {
+            let relocated = relocated_all(alloc, area, setup.processors, registers)?;
+            Ok(relocated)
+        }
     }
-    Ok(registers)
 }

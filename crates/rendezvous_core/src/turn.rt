@@ -124,12 +124,7 @@ fn change(
 }
 
 /// The turn of the actor `me`. Where its access isn't ready, or it is off, nothing changes.
-pub fn take_turn(
-    words: &mut Words,
-    lying: &mut Lying,
-    me: u16,
-    program: &mut Program,
-) -> Stepped
+pub fn take_turn(words: &mut Words, lying: &mut Lying, me: u16, program: &mut Program) -> Stepped
     ensures stepped { result ≡ stepped_by (turn words.old lying.old me program.old) }
     ensures words { words.new ≡ words_by (turn words.old lying.old me program.old) words.old }
     ensures lying { lying.new ≡ lying_by (turn words.old lying.old me program.old) lying.old }
@@ -152,12 +147,7 @@ pub fn take_turn(
 }
 
 /// One step of the actor `me` of these actors.
-pub fn step_of(
-    words: &mut Words,
-    lying: &mut Lying,
-    programs: &mut [Program],
-    me: u16,
-) -> Stepped
+pub fn step_of(words: &mut Words, lying: &mut Lying, programs: &mut [Program], me: u16) -> Stepped
     requires { me < length programs.old }
     ensures stepped { result ≡ (step (world_in words.old lying.old programs.old) me).0 }
     ensures world { world_in words.new lying.new programs.new ≡ (step (world_in words.old lying.old programs.old) me).1 }

@@ -43,12 +43,8 @@ impl Model for World {
 
 impl World {
     // The start, where the relocation isn't refused.
-    fn start(
-        alloc: Global,
-        setup: &Setup,
-        images: &[Image],
-        room: usize,
-    ) -> Result<World, NoMemory>
+    #[tactic(auto, using(crate::proofs::ActorLemmas::start_actors))]
+    fn start(alloc: Global, setup: &Setup, images: &[Image], room: usize) -> Result<World, NoMemory>
         requires images { AreImagesOf (data_of setup.now) images.now }
         requires relocatable { start_refusal (data_of setup.now) images.now ≡ None }
         ensures { IfOk result (λ w. w ≡ record { processors = setup.now.processors; world = start (data_of setup.now) (first_registers (data_of setup.now) images.now) images.now; events = []; room = room }) }
