@@ -1,6 +1,6 @@
 ghost use Rattle.std.specs.Prelude.{◌≡◌, ◌≤◌, ◌<◌, length};
-ghost use Rattle.cpu_program.specs.Programs.{want_of, taken, gift_of, processors_of};
-ghost use Rattle.sync_words.specs.Steps.{Accepts, IsAccepted, IsWantWithin, found_of};
+ghost use Rattle.cpu_program.specs.Programs.{want_of, taken, gift_of, number_of};
+ghost use Rattle.sync_words.specs.Steps.{Accepts, IsAccepted, found_of};
 ghost use Rattle.sync_words.specs.declared.access.Applied.TheVariants as applied;
 ghost use Rattle.sync_words.specs.declared.event.Want.TheVariants as want;
 ghost use Rattle.rendezvous_core.specs.declared.stepped.Stepped.TheVariants as stepped;
@@ -10,7 +10,7 @@ ghost use Rattle.rendezvous_core.specs.Turns.{stepped_by, words_by, lying_by, ac
 use crate::lying::Lying;
 use crate::stepped::Stepped;
 use crate::words::Words;
-use cpu_program::{Program, program_laws};
+use cpu_program::Program;
 use sync_words::{Access, Applied, Event, Hand, LOCKED, Want, WordId, apply};
 
 // An access of an actor.
@@ -48,7 +48,6 @@ fn give(
     program: &mut Program,
 ) -> Stepped
     requires wanted { want_of program.old ≡ want.Access attempt.word attempt.access attempt.hand }
-    requires within { IsWantWithin (processors_of program.old) (want_of program.old) }
     requires accepted { IsAccepted attempt.access (applied.Changed new found) }
     requires fits { new ≤ LOCKED }
     ensures stepped { result ≡ stepped_by (gives words.old lying.old attempt.me attempt.word attempt.access new found program.old (gift_of program.old)) }
@@ -56,7 +55,6 @@ fn give(
     ensures lying { lying.new ≡ lying_by (gives words.old lying.old attempt.me attempt.word attempt.access new found program.old (gift_of program.old)) lying.old }
     ensures actor { program.new ≡ actor_by (gives words.old lying.old attempt.me attempt.word attempt.access new found program.old (gift_of program.old)) program.old }
 {
-    program_laws();
     if !program.can_give() {
         return Stepped::Waiting(found);
     }
@@ -76,7 +74,6 @@ fn take(
     program: &mut Program,
 ) -> Stepped
     requires wanted { want_of program.old ≡ want.Access attempt.word attempt.access attempt.hand }
-    requires within { IsWantWithin (processors_of program.old) (want_of program.old) }
     requires accepted { IsAccepted attempt.access (applied.Changed new found) }
     requires fits { new ≤ LOCKED }
     ensures stepped { result ≡ stepped_by (takes words.old lying.old attempt.me attempt.word attempt.access new found program.old (lying_on lying.old attempt.word)) }
@@ -84,7 +81,6 @@ fn take(
     ensures lying { lying.new ≡ lying_by (takes words.old lying.old attempt.me attempt.word attempt.access new found program.old (lying_on lying.old attempt.word)) lying.old }
     ensures actor { program.new ≡ actor_by (takes words.old lying.old attempt.me attempt.word attempt.access new found program.old (lying_on lying.old attempt.word)) program.old }
 {
-    program_laws();
     match lying.take(attempt.word) {
         None => Stepped::Waiting(found),
         Some(cargo) => {
@@ -105,7 +101,6 @@ fn change(
     program: &mut Program,
 ) -> Stepped
     requires wanted { want_of program.old ≡ want.Access attempt.word attempt.access attempt.hand }
-    requires within { IsWantWithin (processors_of program.old) (want_of program.old) }
     requires accepted { IsAccepted attempt.access (applied.Changed new found) }
     requires fits { new ≤ LOCKED }
     ensures stepped { result ≡ stepped_by (changes words.old lying.old attempt.me attempt.word attempt.access attempt.hand new found program.old) }
