@@ -15,14 +15,14 @@ use Rattle.exit_handshake.specs.Close as close
 use Rattle.exit_handshake.specs.Exit as exit
 use Rattle.handler_ops.specs.declared.desk.Desk.{Desk}
 use Rattle.handler_ops.specs.Sessions.{Session, begun_session}
-use Rattle.handler_ops.specs.Told.{need_as, handed_as}
+use Rattle.handler_ops.specs.Told.{handed_as}
 use Rattle.handler_ops.specs.Answering.{taken_off, move_as, kept_as, told_on, answered}
 use Rattle.cpu_program.specs.declared.cargo.Cargo.{Cargo}
 use Rattle.cpu_program.specs.declared.cargo.Cargo.TheVariants.{Desk as DeskCargo, Chair as ChairCargo}
 use Rattle.cpu_program.specs.declared.part.Part.{Part}
 use Rattle.cpu_program.specs.declared.part.Part.TheVariants.{Between, Entering, Gathering, Closing, Serving, Exiting, Reporting, Off}
 use Rattle.cpu_program.specs.Actors.{Processor, Chipset, Actor, OfProcessor, OfChipset}
-use Rattle.cpu_program.specs.Processors.{is_at_need, own_desk, go_on, to_jobs, after_source, after_jobs, with_need, begin_serving, at_row, taken_serving, entered, resumed, taken_at, left_to, known_bsp, taken_in}
+use Rattle.cpu_program.specs.Processors.{own_desk, go_on, to_jobs, after_source, after_jobs, with_need, told_need, begin_serving, at_row, taken_serving, entered, resumed, taken_at, left_to, known_bsp, taken_in}
 use Rattle.cpu_program.specs.Chipsets as chipset
 use Rattle.cpu_program.specs.Hands.{is_kind, after_giving, after_receiving}
 use Rattle.cpu_program.specs.Programs.{want_of, taken_at_row, taken, given_by_hand, given, received_by_hand, received, number_of}
@@ -48,8 +48,8 @@ need_me : (b : Bool) (p : Processor) → (with_need b p).me ≡ p.me
 need_me true p = refl
 need_me false p = go_on_me (to_jobs 0 p) p
 
-serve_me : (s : Session) (p : Processor) → (with_need (is_at_need p.setup.processors (need_as s.told)) (record p { chair = Some s; held = handed_as s.told p.held })).me ≡ p.me
-serve_me s p = need_me (is_at_need p.setup.processors (need_as s.told)) (record p { chair = Some s; held = handed_as s.told p.held })
+serve_me : (s : Session) (p : Processor) → (told_need s p).me ≡ p.me
+serve_me s p = need_me _ (record p { chair = Some s; held = handed_as s.told p.held })
 
 begin_me : (o : Option Session) (p : Processor) → (begin_serving o p).me ≡ p.me
 begin_me None p = go_on_me (after_jobs p.setup.mode) p
