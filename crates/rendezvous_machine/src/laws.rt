@@ -1,4 +1,4 @@
-ghost use Rattle.std.specs.Prelude.{◌≡◌, ◌≢◌, ◌<◌, ◌⊎◌, ℕ, true, false, List, [], ◌∷◌, ◌++◌, length, Some};
+ghost use Rattle.std.specs.Prelude.{◌≡◌, ◌≢◌, ◌<◌, ◌⊎◌, ◌↔◌, ℕ, true, false, List, ◌∷◌, ◌++◌, length, Some, IsSome, IsSomeAnd};
 ghost use Rattle.std.specs.List.{count_by};
 ghost use Rattle.smm_base.specs.declared.status.Status.{Status};
 ghost use Rattle.save_state_map.specs.Images.{ImageContents};
@@ -10,6 +10,7 @@ ghost use Rattle.sync_words.specs.declared.label.Label.TheVariants as say;
 ghost use Rattle.handler_ops.specs.Procedures.{job_on};
 ghost use Rattle.rendezvous_machine.specs.Effects.{given};
 ghost use Rattle.rendezvous_machine.specs.Machines.{beginning, member};
+ghost use Rattle.rendezvous_machine.specs.Listed.{place_of, is_over, IsServed};
 ghost use Rattle.rendezvous_machine.specs.Refusals.{refusal};
 ghost use Rattle.rendezvous_machine.specs.Runs.{Said, IsRun, machine_after, resumed_image};
 ghost use Rattle.rendezvous_machine.specs.Histories.{has_end, is_run, HasSaid, HasBegun, HasAll};
@@ -60,8 +61,17 @@ pub fn run_laws()
         IsRun d (beginning d registers images) (before ++ ((i, say.Start c j p a) ∷ (middle ++ ((c, say.Run j answer status) ∷ after)))) →
         has_end middle ≡ false →
         (job_on d.procedures (given j p a) (member (machine_after d (beginning d registers images) (before ++ ((i, say.Start c j p a) ∷ middle))) c).image).answer ≡ (answer, status) }
-    // Before any label the image of the last resume is the first one.
-    ensures first { (d : SetupData) (i : ℕ) (registers : Registers) (image : ImageContents) → resumed_image d i registers image [] ≡ image }
+    // A serving list is whole exactly where its place has nothing left to say.
+    ensures whole { (d : SetupData) (registers : List Registers) (images : List ImageContents) (es : List Said) →
+        IsRun d (beginning d registers images) es →
+        let m = machine_after d (beginning d registers images) es in
+        IsSomeAnd m.session (λ s. IsSome s.serving) → (is_over (place_of d m) ≡ true) ↔ IsSomeAnd m.session (IsServed d m) }
+    // The image that a processor last resumed from is the one that the labels alone tell.
+    ensures resumed { (d : SetupData) (registers : List Registers) (images : List ImageContents) (i : ℕ) (es : List Said) →
+        length registers ≡ d.processors → length images ≡ d.processors → i < d.processors →
+        IsRun d (beginning d registers images) es →
+        (member (machine_after d (beginning d registers images) es) i).last ≡
+        resumed_image d i (member (beginning d registers images) i).registers (member (beginning d registers images) i).image es }
 {
     standing();
 }
