@@ -9,3 +9,4 @@ pub mod Working
 pub mod Once
 pub mod Resuming
 pub mod Lawful
+pub mod Examples

@@ -6,6 +6,7 @@ ghost use Rattle.cpu_regs.specs.Registers.{Registers};
 ghost use Rattle.cpu_table.specs.Data.{SetupData};
 ghost use Rattle.cpu_table.specs.declared.setup.Mode.TheVariants.{Traditional};
 ghost use Rattle.sync_words.specs.declared.label.StartRefusal.{StartRefusal};
+ghost use Rattle.sync_words.specs.declared.label.Label.{Label};
 ghost use Rattle.sync_words.specs.declared.label.Label.TheVariants as say;
 ghost use Rattle.handler_ops.specs.Procedures.{job_on};
 ghost use Rattle.rendezvous_machine.specs.Effects.{given};
@@ -13,7 +14,7 @@ ghost use Rattle.rendezvous_machine.specs.Machines.{beginning, member};
 ghost use Rattle.rendezvous_machine.specs.Listed.{place_of, is_over, IsServed};
 ghost use Rattle.rendezvous_machine.specs.Refusals.{refusal};
 ghost use Rattle.rendezvous_machine.specs.Runs.{Said, IsRun, machine_after, resumed_image};
-ghost use Rattle.rendezvous_machine.specs.Histories.{has_end, is_run, HasSaid, HasBegun, HasAll};
+ghost use Rattle.rendezvous_machine.specs.Histories.{has_end, is_leading, is_run, HasSaid, HasBegun, HasAll};
 
 use handler_ops::standing;
 
@@ -23,6 +24,10 @@ pub fn run_laws()
     ensures sessions { (d : SetupData) (registers : List Registers) (images : List ImageContents) (before middle after : List Said) (i j : ℕ) →
         IsRun d (beginning d registers images) (before ++ ((i, say.Elect) ∷ (middle ++ ((j, say.Elect) ∷ after)))) →
         has_end middle ≡ true }
+    // What a boot processor says is said, up to the session's end, by the one that was elected.
+    ensures led { (d : SetupData) (registers : List Registers) (images : List ImageContents) (before middle after : List Said) (i j : ℕ) (l : Label) →
+        IsRun d (beginning d registers images) (before ++ ((i, say.Elect) ∷ (middle ++ ((j, l) ∷ after)))) →
+        has_end middle ≡ false → is_leading l ≡ true → j ≡ i }
     // Each wave is served once at most.
     ensures waves { (d : SetupData) (registers : List Registers) (images : List ImageContents) (before middle after : List Said) (i j w v : ℕ) →
         IsRun d (beginning d registers images) (before ++ ((i, say.Served w) ∷ (middle ++ ((j, say.Served v) ∷ after)))) →

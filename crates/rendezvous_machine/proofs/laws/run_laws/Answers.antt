@@ -4,7 +4,7 @@ use Rattle.sync_words.specs.declared.label.Label.TheVariants as say
 use Rattle.rendezvous_machine.specs.Effects.{given}
 use Rattle.rendezvous_machine.specs.Machines.{beginning, member}
 use Rattle.rendezvous_machine.specs.Runs.{machine_after}
-use Rattle.rendezvous_machine.proofs.Waves.{one_session, other_wave}
+use Rattle.rendezvous_machine.proofs.Waves.{one_session, one_leader, other_wave}
 use Rattle.rendezvous_machine.proofs.Lawful.{refused, called, none_called, waited, all_reported, first_all}
 use Rattle.rendezvous_machine.proofs.Walks.{kept, after_both}
 use Rattle.rendezvous_machine.proofs.Lists.{Standing, JobsFit}
@@ -19,6 +19,7 @@ returns c =
     let std : Standing = record { begins = law.begins; follows = law.follows; whole = law.whole } in
     record {
       sessions = λ d g ms. one_session d (beginning d g ms);
+      led = λ d g ms. one_leader d (beginning d g ms);
       waves = λ d g ms before middle after i j w v. other_wave d (beginning d g ms) before middle after i j w v (omega arith);
       refused = λ d g ms. refused d (beginning d g ms);
       called = λ d g ms before after i h. called d (beginning d g ms) before after i h refl;
