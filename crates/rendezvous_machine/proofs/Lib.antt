@@ -7,6 +7,5 @@ pub mod Jobs
 pub mod Lists
 pub mod Working
 pub mod Once
-pub mod Resuming
 pub mod Lawful
 pub mod Examples

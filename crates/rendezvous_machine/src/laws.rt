@@ -13,7 +13,7 @@ ghost use Rattle.rendezvous_machine.specs.Effects.{given};
 ghost use Rattle.rendezvous_machine.specs.Machines.{beginning, member};
 ghost use Rattle.rendezvous_machine.specs.Listed.{place_of, is_over, IsServed};
 ghost use Rattle.rendezvous_machine.specs.Refusals.{refusal};
-ghost use Rattle.rendezvous_machine.specs.Runs.{Said, IsRun, machine_after, resumed_image};
+ghost use Rattle.rendezvous_machine.specs.Runs.{Said, IsRun, machine_after};
 ghost use Rattle.rendezvous_machine.specs.Histories.{has_end, is_leading, is_run, HasSaid, HasBegun, HasAll};
 
 use handler_ops::standing;
@@ -71,12 +71,6 @@ pub fn run_laws()
         IsRun d (beginning d registers images) es →
         let m = machine_after d (beginning d registers images) es in
         IsSomeAnd m.session (λ s. IsSome s.serving) → (is_over (place_of d m) ≡ true) ↔ IsSomeAnd m.session (IsServed d m) }
-    // The image that a processor last resumed from is the one that the labels alone tell.
-    ensures resumed { (d : SetupData) (registers : List Registers) (images : List ImageContents) (i : ℕ) (es : List Said) →
-        length registers ≡ d.processors → length images ≡ d.processors → i < d.processors →
-        IsRun d (beginning d registers images) es →
-        (member (machine_after d (beginning d registers images) es) i).last ≡
-        resumed_image d i (member (beginning d registers images) i).registers (member (beginning d registers images) i).image es }
 {
     standing();
 }

@@ -9,7 +9,6 @@ use Rattle.rendezvous_machine.proofs.Lawful.{refused, called, none_called, waite
 use Rattle.rendezvous_machine.proofs.Walks.{kept, after_both}
 use Rattle.rendezvous_machine.proofs.Lists.{Standing, JobsFit}
 use Rattle.rendezvous_machine.proofs.Working.{fit_any, whole_in}
-use Rattle.rendezvous_machine.proofs.Resuming.{resumes}
 use Rattle.rendezvous_machine.proofs.Once.{runs_once, answers, first_fit, first_length}
 use Rattle.rendezvous_machine.proofs.laws.run_laws.Goals as goal
 
@@ -31,5 +30,4 @@ returns c =
           subst (λ z. (job_on d.procedures (given j p a) (member z y).image).answer ≡ (x, S)) (sym (after_both d (beginning d g ms) before ((i, say.Start y j p a) ∷ middle)))
           (answers std d (beginning d g ms) before middle after i y j p a x S (first_fit d g ms) (first_length g ms d.processors e f) r n);
       whole = λ d g ms es r. let m = machine_after d (beginning d g ms) es in whole_in std d 0 m m.session (kept d (JobsFit d 0) (fit_any std d) (beginning d g ms) es r (first_fit d g ms));
-      resumed = resumes;
     }
