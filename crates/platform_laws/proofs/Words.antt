@@ -1,6 +1,6 @@
 -- A word that is read is the one that is written, and the other way round.
-use Rattle.std.proofs.Common.{◌≡◌, ℕ, zero, suc, ◌+◌, ◌<◌, ◌≤◌, Bool, true, false, ◌==◌, nat_lt, List, [], ◌∷◌, Option, Some, None, Ok, Err, option_map, codes, cond, refl, ap, sym, subst, ◌∙◌, if◌then◌else◌, arith}
-use Rattle.std.specs.Prelude.{find, is_some}
+use Rattle.std.proofs.Common.{◌≡◌, ℕ, zero, suc, ◌+◌, ◌<◌, ◌≤◌, Bool, true, false, ◌==◌, List, [], ◌∷◌, Option, Some, None, option_map, codes, cond, refl, ap, sym, subst, ◌∙◌, if◌then◌else◌, arith}
+use Rattle.std.specs.Prelude.{find}
 use Rattle.std.specs.Str.{bytes_eq}
 use Rattle.std.specs.Int.{w128, from_be_bytes}
 use Rattle.std.proofs.lemmas.Bool.{false≢true, ltb-true}
@@ -30,7 +30,7 @@ use Rattle.platform_document.specs.declared.word.PolicyWord.TheVariants as polic
 use Rattle.platform_document.specs.declared.word.OperationWord.{OperationWord}
 use Rattle.platform_document.specs.declared.word.OperationWord.TheVariants as word
 use Rattle.platform_document.specs.Words.{map_of, policy_of, mode_of, arrival_of, answer_of, guid_of, kind_of, start_list_of, act_of, operation_word, variable, variable_of}
-use Rattle.platform_laws.specs.Words.{map_text, mode_text, arrival_text, act_text, variable_text, IsGuid, IsKind, IsStartList}
+use Rattle.platform_laws.specs.Words.{map_text, mode_text, arrival_text, act_text, variable_text, IsKind, IsStartList}
 
 -- a word that is the next one of a list, or one of the rest
 pub word_case : {A : Type 0} (text w : List ℕ) (a b : A) (rest : Option A) (P : A → Type 0) → (if bytes_eq text w then Some a else rest) ≡ Some b → (text ≡ w → P a) → (rest ≡ Some b → P b) → P b

@@ -1,9 +1,10 @@
 -- Lemmas on the values of a slab in an order of their keys.
-use Rattle.std.proofs.Common.{◌≡◌, ◌≢◌, ℕ, zero, suc, ◌<◌, Bool, true, false, ◌||◌, cond, List, [], ◌∷◌, ◌++◌, length, get_or, Option, Some, None, IsSome, refl, sym, ap, subst, ◌∙◌, arith}
+use Rattle.std.proofs.Common.{◌≡◌, ◌≢◌, ℕ, zero, suc, ◌<◌, Bool, true, false, ◌||◌, cond, List, [], ◌∷◌, ◌++◌, length, get_or, Option, Some, None, IsSome, refl, sym, ap, subst, ◌∙◌, inl, inr, arith}
+use Rattle.std.proofs.lemmas.Bool.{cases_eq}
 use Rattle.std.specs.List.{cons_option, find, list_any, remove}
 use Rattle.std.specs.Option.{option_map_or, option_and_then}
 use Rattle.slab.specs.Slab.{Slab, get, Updates}
-use Rattle.ap_procedure.specs.Order.{values_at, IsApart, IsOrder}
+use Rattle.slab_order.specs.Order.{values_at, IsApart, IsOrder}
 
 apart_pushed : (k key : ℕ) (keys : List ℕ) → IsApart k keys → key ≢ k → IsApart k (keys ++ key ∷ [])
 apart_pushed k key [] a n = (n, tt)
@@ -92,3 +93,11 @@ module _ {T : Type 0} where
   pub any_values : (p : T → Bool) (slab : Slab T) (keys : List ℕ) → list_any p (values_at slab keys) ≡ list_any (λ key. option_map_or p (get slab key) false) keys
   any_values p slab [] = refl
   any_values p slab (k ∷ rest) = any_head p (get slab k) (values_at slab rest) (list_any (λ key. option_map_or p (get slab key) false) rest) (any_values p slab rest)
+
+  -- a value for a value
+  pub order_set : (slab new : Slab T) (key : ℕ) (v : T) (keys : List ℕ) → Updates slab new key (Some v) → IsOrder slab keys → IsOrder new keys
+  order_set slab new key v [] u o = tt
+  order_set slab new key v (k ∷ rest) u o = (still_there, o.1, order_set slab new key v rest u o.2)
+    where
+      still_there : IsSome (get new k)
+      still_there = elim (cases_eq k key) [ inl same ↦ rw (ap (get new) same ∙ u.changed) refl | inr differs ↦ rw (u.others k differs) (o.0) ]
