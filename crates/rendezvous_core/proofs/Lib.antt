@@ -1,0 +1,5 @@
+pub mod ReplayLemmas
+pub mod Scheduling
+pub mod StartLemmas
+pub mod NumberLemmas
+pub mod ActorLemmas
