@@ -1,9 +1,9 @@
 -- The actors of a world: those of a start, and those after a turn.
-use Rattle.std.proofs.Common.{◌≡◌, ◌≢◌, ℕ, zero, suc, ◌+◌, ◌<◌, ◌≤◌, Bool, true, false, List, [], ◌∷◌, ◌++◌, Option, Some, None, length, drop, get_or, set, refl, ap, sym, subst, ◌∙◌, arith, add-one, append_assoc}
+use Rattle.std.proofs.Common.{◌≡◌, ℕ, zero, suc, ◌+◌, ◌<◌, ◌≤◌, List, [], ◌∷◌, ◌++◌, Option, Some, None, length, drop, get_or, set, refl, ap, sym, subst, ◌∙◌, arith, add-one, append_assoc}
 use Rattle.std.proofs.Math.Seq.{drop-cons}
-use Rattle.std.proofs.lemmas.List.{drop_all, length-set, set-get_or}
+use Rattle.std.proofs.lemmas.List.{set-get_or}
 use Rattle.std.proofs.lemmas.Option.{get_or_from_slice_get, slice_get-get_or}
-use Rattle.std.specs.Prelude.{All, slice_get, slice_set, IsSomeAnd, IsSome}
+use Rattle.std.specs.Prelude.{slice_get, slice_set, IsSomeAnd}
 use Rattle.save_state_map.specs.Images.{ImageContents}
 use Rattle.cpu_regs.specs.Registers.{Registers}
 use Rattle.cpu_table.specs.Data.{SetupData}
@@ -11,7 +11,6 @@ use Rattle.sync_words.specs.declared.word.WordId.{WordId}
 use Rattle.sync_words.specs.declared.access.Access.{Access}
 use Rattle.sync_words.specs.declared.access.Applied.{Applied}
 use Rattle.sync_words.specs.declared.access.Applied.TheVariants.{Changed, Same, NotReady}
-use Rattle.sync_words.specs.declared.event.Event.{Event}
 use Rattle.sync_words.specs.declared.event.Hand.{Hand}
 use Rattle.sync_words.specs.declared.event.Hand.TheVariants.{Nothing, Give, Take}
 use Rattle.sync_words.specs.declared.event.Want.{Want}
@@ -20,7 +19,6 @@ use Rattle.sync_words.specs.Access.{applied}
 use Rattle.cpu_program.specs.declared.cargo.Cargo.{Cargo}
 use Rattle.cpu_program.specs.Actors.{Actor, OfProcessor, OfChipset}
 use Rattle.cpu_program.specs.Programs.{want_of, taken, gift_of, given, received, number_of}
-use Rattle.rendezvous_core.specs.declared.stepped.Stepped.{Stepped}
 use Rattle.rendezvous_core.specs.Starts.{AreImagesOf, first_registers}
 use Rattle.rendezvous_core.specs.Worlds.{Words, Lying, World, Turn, Moves, Waits, Rests, lying_on, read, gives, takes, changes, accesses, turn_wanting, turn, turned, step_of, step, first_actor, first_actors}
 use Rattle.rendezvous_core.specs.Turns.{stepped_by, words_by, lying_by, actor_by, world_in}

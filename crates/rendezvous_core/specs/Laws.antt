@@ -1,6 +1,5 @@
 -- The laws of steps and schedules.
 use Rattle.std.specs.Prelude.{ℕ, ◌≡◌, List, ◌++◌, length}
-use Rattle.sync_words.specs.declared.event.Event.{Event}
 use Rattle.rendezvous_core.specs.Worlds.{World, step, events_from, world_after, MakesNoEvent}
 
 abbrev pub AppendsEvents : Type 0

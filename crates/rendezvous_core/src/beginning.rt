@@ -1,4 +1,4 @@
-ghost use Rattle.std.specs.Prelude.{◌≡◌, ◌<◌, ◌++◌, ◌∷◌, None, IfOk, OnOk, length, drop};
+ghost use Rattle.std.specs.Prelude.{◌≡◌, ◌<◌, None, IfOk};
 ghost use Rattle.cpu_table.specs.Data.{data_of};
 ghost use Rattle.rendezvous_core.specs.Starts.{AreImagesOf, first_registers, start_refusal};
 ghost use Rattle.rendezvous_core.specs.StartsInside.{AreRegistersOf};

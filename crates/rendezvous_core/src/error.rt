@@ -1,4 +1,4 @@
-ghost use Rattle.std.specs.Prelude.{◌≡◌, Some};
+ghost use Rattle.std.specs.Prelude.{Some};
 ghost use Rattle.rendezvous_core.specs.Starts.{IsRefusedBy};
 
 use smbase_reloc::RelocError;
@@ -11,6 +11,7 @@ pub enum WorldError {
     NoRelocation(u16),
     /// This processor's SMBASE isn't 30000H.
     NotDefault(u16),
+    /// The allocator has no memory for the replay.
     NoMemory,
 }
 

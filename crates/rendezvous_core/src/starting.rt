@@ -1,10 +1,10 @@
-ghost use Rattle.std.specs.Prelude.{◌≡◌, ◌+◌, ◌≤◌, ◌<◌, ◌^◌, ◌∷◌, None, IfOk, OnOk, length, map};
+ghost use Rattle.std.specs.Prelude.{◌≡◌, ◌+◌, ◌≤◌, ◌<◌, ◌^◌, None, IfOk, OnOk, length, map};
 ghost use Rattle.cpu_table.specs.Data.{data_of};
 ghost use Rattle.cpu_table.specs.Layout.{layout_refusal};
 ghost use Rattle.cpu_regs.specs.Registers.{loaded};
 ghost use Rattle.smbase_reloc.specs.Relocation.{relocation_refusal, relocated};
 ghost use Rattle.rendezvous_core.specs.Starts.{AreImagesOf, first_registers, start_refusal};
-ghost use Rattle.rendezvous_core.specs.StartsInside.{refusal_one, refusal_from, numbered};
+ghost use Rattle.rendezvous_core.specs.StartsInside.{refusal_one, numbered};
 
 use cpu_regs::Regs;
 use cpu_table::{Setup, Smram};

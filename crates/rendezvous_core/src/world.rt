@@ -1,4 +1,4 @@
-ghost use Rattle.std.specs.Prelude.{◌≡◌, ◌<◌, ◌≤◌, ◌++◌, [], ◌∷◌, length, IfOk, IfErr, OnOk, None, Some};
+ghost use Rattle.std.specs.Prelude.{◌≡◌, ◌<◌, ◌≤◌, ◌++◌, [], length, IfOk, IfErr, OnOk, None, Some};
 ghost use Rattle.cpu_table.specs.Data.{data_of};
 ghost use Rattle.rendezvous_core.specs.Starts.{AreImagesOf, first_registers, start_refusal, IsRefusedBy};
 ghost use Rattle.rendezvous_core.specs.Worlds.{start, step, with_event, is_off, is_complete, last_image, MakesNoEvent};
