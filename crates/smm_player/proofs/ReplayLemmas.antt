@@ -1,13 +1,12 @@
 -- The images after, the report and the faults of a replay.
 use Rattle.std.proofs.Common.{◌≡◌, ℕ, zero, suc, ◌+◌, ◌<◌, false, if◌then◌else◌, List, [], ◌∷◌, ◌++◌, length, map, All, Option, Some, Result, Ok, Err, IfErr, IfOk, OnOk, refl, ap, sym, subst, ◌∙◌, arith, zero-add}
 use Rattle.std.specs.Prelude.{IsTrue, ◌==◌, ◌&&◌, slice_get, filter_map}
-use Rattle.std.specs.List.{range_with_len, cons_option}
+use Rattle.std.specs.List.{range_with_len, cons_option, enumerate_from}
 use Rattle.std.proofs.lemmas.Bool.{and_parts, eqb-true}
 use Rattle.std.proofs.lemmas.List.{length-map, map-append}
 use Rattle.std.proofs.lemmas.List.Elements.{All-head, All-cons, All-nil}
-use Rattle.std.proofs.lemmas.List.FromFn.{length-map-range_with_len, map-range_with_len_more}
+use Rattle.std.proofs.lemmas.List.FromFn.{length-enumerate_from, length-map-range_with_len, map-range_with_len_more}
 use Rattle.smm_base.specs.Sink.{appended, GainsPrefix-whole}
-use Rattle.smm_base.specs.declared.kinds.MapKind.{MapKind}
 use Rattle.save_state_map.specs.Images.{ImageContents}
 use Rattle.cpu_table.specs.Data.{SetupData}
 use Rattle.cpu_regs.specs.Registers.{Registers}
@@ -18,7 +17,9 @@ use Rattle.one_processor.specs.Setups.{platform_of, is_built, is_elected, is_tra
 use Rattle.one_processor.specs.Setups as one_setup
 use Rattle.one_processor.specs.Starts as one_start
 use Rattle.one_processor.specs.Worlds as one
+use Rattle.rendezvous_core.specs.Platforms.{HasProcessorOf, KeepsPlatform}
 use Rattle.rendezvous_core.specs.Starts.{AreImagesOf}
+use Rattle.rendezvous_core.specs.Starts as any_start
 use Rattle.rendezvous_core.specs.Worlds as any
 use Rattle.smm_player.specs.declared.fault.Fault.{Fault}
 use Rattle.smm_player.specs.declared.fault.Fault.TheVariants.{Refused, Write, Save, Memory}
@@ -112,16 +113,23 @@ any_left_is p left world is events complete each =
     (sym (images_are (any.last_image (any_world p)) places left.images (each ∙ ap (λ w. map (any.last_image w) places) is)))
 
 -- and the images
-pub any_after : (p : Plan) (images : List ImageContents) (world : any.World) (kind : MapKind) → is_built p.setup ≡ false → world ≡ any_world p → map Some images ≡ map (any.last_image world) (range_with_len 0 p.setup.processors) →
-    kind ≡ p.setup.kind → All (λ image. image.kind ≡ kind) images → AreImagesAfter p images
-any_after p images world kind other is each same kinds =
+pub any_after : (p : Plan) (images : List ImageContents) (world : any.World) → is_built p.setup ≡ false → world ≡ any_world p → map Some images ≡ map (any.last_image world) (range_with_len 0 p.setup.processors) →
+    All (λ image. image.kind ≡ p.setup.kind) images → AreImagesAfter p images
+any_after p images world other is each kinds =
     let n = p.setup.processors in
     let all : map Some images ≡ map (any.last_image (any_world p)) (range_with_len 0 n) = each ∙ ap (λ w. map (any.last_image w) (range_with_len 0 n)) is in
-    let P : MapKind → Type 0 = λ k. All (λ image. image.kind ≡ k) images in
     record {
-      serve = record { count = sym (length-map images Some) ∙ ap length all ∙ length-map-range_with_len (any.last_image (any_world p)) 0 n; kind = subst P same kinds };
+      serve = record { count = sym (length-map images Some) ∙ ap length all ∙ length-map-range_with_len (any.last_image (any_world p)) 0 n; kind = kinds };
       each = λ i below. image_at (any.last_image (any_world p)) 0 n images all i below ∙ ap (any.last_image (any_world p)) (zero-add i) ∙ sym (any_image p i other);
     }
+
+-- each processor of that world is one of the platform
+pub any_platform : KeepsPlatform → (p : Plan) (world : any.World) → IsPlayable p → world ≡ any_world p → (i : ℕ) → i < p.setup.processors → HasProcessorOf p.setup world i
+any_platform keeps p world playable is i below =
+    let registers = any_start.first_registers p.setup p.images in
+    let each : length registers ≡ length p.images = length-map (enumerate_from 0 p.images) _ ∙ length-enumerate_from 0 p.images in
+    let P : any.World → Type 0 = λ w. HasProcessorOf p.setup w i in
+    subst P (sym is) (keeps p.setup registers p.images p.actors i (sym each) (omega (arith, below, each, playable.images.count)))
 
 pub left_as : {V E : Type 0} (view : V → Replayed) (r : Result V E) (a b : Replayed) → a ≡ b → IfOk r (λ x. view x ≡ a) → IfOk r (λ x. view x ≡ b)
 left_as view (Ok x) a b same is = is ∙ same

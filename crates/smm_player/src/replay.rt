@@ -1,14 +1,16 @@
-ghost use Rattle.std.specs.Prelude.{◌≡◌, ◌≤◌, All, IfOk, IsTrue, Some, false, map};
+ghost use Rattle.std.specs.Prelude.{ℕ, ◌≡◌, ◌<◌, ◌≤◌, All, IfOk, IsTrue, Some, false, map};
 ghost use Rattle.std.specs.List.{range_with_len};
 ghost use Rattle.cpu_table.specs.Data.{data_of};
 ghost use Rattle.one_processor.specs.Setups.{is_built};
+ghost use Rattle.rendezvous_core.specs.Platforms.{HasProcessorOf};
 ghost use Rattle.rendezvous_core.specs.Worlds.{last_image};
 ghost use Rattle.smm_player.specs.Plan.{plan_of, IsPlayable};
 ghost use Rattle.smm_player.specs.Replays.{one_replayed, any_replayed, replayed, AreImagesAfter};
 
 use crate::inputs::Inputs;
+use cpu_table::Setup;
 use one_processor::{World as OneWorld, every_schedule, is_built};
-use rendezvous_core::World;
+use rendezvous_core::{World, schedule_laws};
 use save_state_map::Image;
 use smm_base::NoMemory;
 use std::alloc::Global;
@@ -90,12 +92,14 @@ fn by_one(alloc: Global, inputs: &Inputs) -> Result<Replay, NoMemory>
     }
 }
 
-// The images after of so many processors, by number.
-fn images_after(alloc: Global, world: &World, processors: u16) -> Result<Vec<Image>, NoMemory>
-    requires { processors ≤ world.now.setup.processors }
-    ensures each { IfOk result (λ images. map Some images.items ≡ map (last_image world.now.world) (range_with_len 0 processors)) }
-    ensures kind { IfOk result (λ images. All (λ image. image.kind ≡ world.now.setup.kind) images.items) }
+// The images after of all processors of a setup, by number.
+fn images_after(alloc: Global, world: &World, setup: &Setup) -> Result<Vec<Image>, NoMemory>
+    requires processors { setup.now.processors ≤ world.now.processors }
+    requires platform { (i : ℕ) → i < setup.now.processors → HasProcessorOf (data_of setup.now) world.now.world i }
+    ensures each { IfOk result (λ images. map Some images.items ≡ map (last_image world.now.world) (range_with_len 0 setup.now.processors)) }
+    ensures kind { IfOk result (λ images. All (λ image. image.kind ≡ setup.now.kind) images.items) }
 {
+    let processors = setup.processors;
     let mut images = Vec::with_capacity(alloc, processors as usize)?;
     for i in 0..processors {
         images.push(*world.after(i))?;
@@ -110,9 +114,10 @@ fn by_any(alloc: Global, inputs: &Inputs) -> Result<Replay, NoMemory>
     ensures replayed { IfOk result (λ r. r ≡ any_replayed (plan_of inputs.now)) }
     ensures images { IfOk result (λ r. AreImagesAfter (plan_of inputs.now) r.images) }
 {
+    schedule_laws();
     match rendezvous_core::replay(alloc, &inputs.setup, &inputs.images, &inputs.actors) {
         Ok(world) => {
-            let images = images_after(alloc, &world, inputs.setup.processors)?;
+            let images = images_after(alloc, &world, &inputs.setup)?;
             Ok(Replay {
                 core: Core::Any(world),
                 images,

@@ -1,7 +1,7 @@
 use Rattle.std.proofs.Common.{ap, refl}
 use Rattle.rendezvous_core.specs.Worlds.{is_complete}
 use Rattle.smm_player.specs.Plan.{plan_of}
-use Rattle.smm_player.proofs.ReplayLemmas.{any_left_is, any_after}
+use Rattle.smm_player.proofs.ReplayLemmas.{any_left_is, any_after, any_platform}
 use Rattle.smm_player.proofs.replay.by_any.Goals as goal
 
 pub returns-in_ok-images-in-Ok-clause-replayed : goal.returns-in_ok-images-in-Ok-clause-replayed
@@ -11,5 +11,9 @@ returns-in_ok-images-in-Ok-clause-replayed c =
 
 pub returns-in_ok-images-in-Ok-clause-images : goal.returns-in_ok-images-in-Ok-clause-images
 returns-in_ok-images-in-Ok-clause-images c =
-    any_after (plan_of c.args.inputs.now) c.in_ok-images-in-Ok.images.items c.in-Ok.world.world c.in-Ok.world.setup.kind c.requires.other
-    c.in-Ok.ensures.world c.in_ok-images-in-Ok.ensures.each (ap (λ setup. setup.kind) c.in-Ok.ensures.setup) c.in_ok-images-in-Ok.ensures.kind
+    any_after (plan_of c.args.inputs.now) c.in_ok-images-in-Ok.images.items c.in-Ok.world.world c.requires.other
+    c.in-Ok.ensures.world c.in_ok-images-in-Ok.ensures.each c.in_ok-images-in-Ok.ensures.kind
+
+pub images_after-requires-clause-platform : goal.images_after-requires-clause-platform
+images_after-requires-clause-platform c =
+    any_platform c.schedule_laws.ensures.platform (plan_of c.args.inputs.now) c.in-Ok.world.world c.requires.playable c.in-Ok.ensures.world
