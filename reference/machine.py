@@ -288,7 +288,8 @@ class Machine:
 
     def rule_collect(self, actor, cpu):
         cpu = int(cpu)
-        if not self.is_bsp(actor) or self.jobs[cpu] is None or self.jobs[cpu].state != "finished":
+        job = self.jobs[cpu] if cpu < len(self.jobs) else None
+        if not self.is_bsp(actor) or job is None or job.state != "finished":
             return False
         if not self.session.is_whole:
             return self.serve(actor, f"collect:{cpu}")

@@ -1,16 +1,15 @@
 -- Lemmas on what each call makes of the tokens.
-use Rattle.std.proofs.Common.{◌≡◌, ◌≢◌, ℕ, ◌+◌, ◌≤◌, Bool, true, false, ◌||◌, cond, not, List, [], ◌∷◌, map, Option, Some, None, IsSome, refl, sym, ap, subst, ◌∙◌, inl, inr, arith, ne_eqb}
-use Rattle.std.proofs.lemmas.Bool.{cases_eq}
-use Rattle.std.specs.List.{cons_option, find, list_any}
+use Rattle.std.proofs.Common.{◌≡◌, ◌≢◌, ℕ, ◌+◌, ◌≤◌, Bool, true, false, cond, List, [], ◌∷◌, map, Option, Some, None, refl, sym, ap, subst, ◌∙◌, arith, ne_eqb}
+use Rattle.std.specs.List.{cons_option, find}
 use Rattle.std.specs.Option.{option_map_or}
 use Rattle.smm_base.specs.declared.status.Status.{Status}
 use Rattle.slab.specs.Slab.{Slab, get, Updates}
+use Rattle.slab_order.specs.Order.{values_at, IsApart, IsOrder}
+use Rattle.slab_order.proofs.OrderLemmas.{values_apart}
+use Rattle.slab_order.proofs.RisingLemmas.{rising_pushed, rising_more, rising_rest}
 use Rattle.ap_procedure.specs.declared.token.Token.{Token}
 use Rattle.ap_procedure.specs.declared.token.TokenState.TheVariants.{Finished}
-use Rattle.ap_procedure.specs.Order.{values_at, IsApart, IsOrder}
-use Rattle.ap_procedure.specs.Given.{is_of, issued, finished, with_finished, without, IsRising}
-use Rattle.ap_procedure.proofs.OrderLemmas.{values_apart}
-use Rattle.ap_procedure.proofs.RisingLemmas.{rising_pushed, rising_more}
+use Rattle.ap_procedure.specs.Given.{job_of, is_of, issued, finished, with_finished, IsRising}
 
 pub finished_job : (job result : ℕ) (status : Status) (t : Token) → (finished job result status t).job ≡ t.job
 finished_job job result status t = by_test (is_of job t)
@@ -29,8 +28,8 @@ rising_with_finished None result status n last ts r = r
 rising_with_finished (Some job) result status n last ts r = rising_finished job result status n last ts r
 
 pub rising_issued : (with_token : Bool) (t : Token) (last : ℕ) (ts : List Token) → t.job ≡ last + 1 → IsRising 0 last ts → IsRising 0 (last + 1) (issued with_token t ts)
-rising_issued true t last ts e r = rising_pushed 0 last ts t e (omega arith) r
-rising_issued false t last ts e r = rising_more 0 last (last + 1) ts (omega arith) r
+rising_issued true t last ts e r = rising_pushed job_of 0 last ts t e (omega arith) r
+rising_issued false t last ts e r = rising_more job_of 0 last (last + 1) ts (omega arith) r
 
 -- tokens of later jobs stay
 finished_above : (job result : ℕ) (status : Status) (n last : ℕ) (ts : List Token) → job ≤ n → IsRising n last ts → map (finished job result status) ts ≡ ts
@@ -47,14 +46,6 @@ finished_none job result status (t ∷ rest) e = by_test (is_of job t) e (finish
     by_test true g ih = absurd (cc g)
     by_test false g ih = rw (ih g) refl
 
-pub without_none : (job : ℕ) (ts : List Token) → list_any (is_of job) ts ≡ false → without job ts ≡ ts
-without_none job [] e = refl
-without_none job (t ∷ rest) e = by_test (is_of job t) e (without_none job rest)
-  where
-    by_test : (b : Bool) → (b || list_any (is_of job) rest) ≡ false → (list_any (is_of job) rest ≡ false → without job rest ≡ rest) → cond (not b) (t ∷ without job rest) (without job rest) ≡ t ∷ rest
-    by_test true g ih = absurd (cc g)
-    by_test false g ih = rw (ih g) refl
-
 finished_here : (o : Option Token) (ts : List Token) (job result : ℕ) (status : Status) (n last : ℕ) → option_map_or (is_of job) o false ≡ true → IsRising n last (cons_option o ts) →
     record { job = job; state = Finished result status } ∷ ts ≡ map (finished job result status) (cons_option o ts)
 finished_here None ts job result status n last h r = absurd (cc h)
@@ -66,10 +57,6 @@ finished_later : (o : Option Token) (ts left : List Token) (job result : ℕ) (s
 finished_later None ts left job result status h e = e
 finished_later (Some t) ts left job result status h e = rw (h, e) refl
 
-rising_rest : (o : Option Token) (ts : List Token) (n last : ℕ) → IsRising n last (cons_option o ts) → (m : ℕ) × IsRising m last ts
-rising_rest None ts n last r = (n, r)
-rising_rest (Some t) ts n last r = (t.job, r.2)
-
 -- the first key whose token is of the job is given the finished token
 pub values_finished : (slab new : Slab Token) (key job result : ℕ) (status : Status) (keys : List ℕ) (n last : ℕ) →
     Updates slab new key (Some (record { job = job; state = Finished result status })) →
@@ -80,7 +67,7 @@ pub values_finished : (slab new : Slab Token) (key job result : ℕ) (status : S
 values_finished slab new key job result status [] n last u here found o r = absurd (cc found)
 values_finished slab new key job result status (k ∷ rest) n last u here found o r =
     by_test (option_map_or (is_of job) (get slab k) false) refl found
-    (λ later. values_finished slab new key job result status rest (rising_rest (get slab k) (values_at slab rest) n last r).0 last u here later o.2 (rising_rest (get slab k) (values_at slab rest) n last r).1)
+    (λ later. values_finished slab new key job result status rest (rising_rest job_of (get slab k) (values_at slab rest) n last r).0 last u here later o.2 (rising_rest job_of (get slab k) (values_at slab rest) n last r).1)
   where
     by_test : (b : Bool) → option_map_or (is_of job) (get slab k) false ≡ b →
         cond b (Some k) (find (λ k. option_map_or (is_of job) (get slab k) false) rest) ≡ Some key →
@@ -94,14 +81,6 @@ values_finished slab new key job result status (k ∷ rest) n last u here found 
     by_test false t f ih =
         let differs : k ≢ key = λ (e : k ≡ key). cc (t, here, e) in
         rw (u.others k differs) (finished_later (get slab k) (values_at slab rest) (values_at new rest) job result status t (ih f))
-
--- a value for a value
-pub order_set : {T : Type 0} (slab new : Slab T) (key : ℕ) (v : T) (keys : List ℕ) → Updates slab new key (Some v) → IsOrder slab keys → IsOrder new keys
-order_set slab new key v [] u o = tt
-order_set slab new key v (k ∷ rest) u o = (has_value, o.1, order_set slab new key v rest u o.2)
-  where
-    has_value : IsSome (get new k)
-    has_value = elim (cases_eq k key) [ inl same ↦ rw (ap (get new) same ∙ u.changed) refl | inr differs ↦ rw (u.others k differs) (o.0) ]
 
 pub found_passes : {A : Type 0} (p : A → Bool) (xs : List A) (x : A) → find p xs ≡ Some x → p x ≡ true
 found_passes p [] x e = absurd (cc e)

@@ -4,13 +4,13 @@ use Rattle.std.specs.List.{find, list_any}
 use Rattle.std.specs.Option.{option_map}
 use Rattle.std.proofs.lemmas.List.Folds.{list_any-append}
 use Rattle.smm_base.specs.declared.status.Status.{Status}
+use Rattle.slab_order.proofs.RisingLemmas.{rising_filtered}
 use Rattle.ap_procedure.specs.declared.token.Token.{Token}
 use Rattle.ap_procedure.specs.declared.token.TokenState.TheVariants.{Open}
-use Rattle.ap_procedure.specs.Given.{GivenJobs, no_jobs, job_at, is_of, state_of, is_refused, issued, assigned, finished, with_finished, without, dropped, IsRising}
+use Rattle.ap_procedure.specs.Given.{GivenJobs, no_jobs, job_at, job_of, is_of, state_of, is_refused, issued, assigned, finished, with_finished, without, dropped, IsRising}
 use Rattle.ap_procedure.specs.Steps.{Step, MayStep, stepped, all_stepped, is_drop_of, AreGiven}
 use Rattle.ap_procedure.specs.Steps.Step.{Give, Collect, Drop}
 use Rattle.ap_procedure.proofs.JobLemmas.{finished_job, rising_issued, rising_with_finished}
-use Rattle.ap_procedure.proofs.RisingLemmas.{rising_filtered}
 
 -- ---- the count of jobs
 
@@ -91,7 +91,7 @@ kept_collected cpu job result status state k =
 
 pub kept_dropped : (job : ℕ) (state : GivenJobs) → AreGiven state → AreGiven (dropped job state)
 kept_dropped job state k =
-    record { numbered = k.numbered; one_processor = k.one_processor; rising = rising_filtered _ 0 state.given state.tokens k.rising }
+    record { numbered = k.numbered; one_processor = k.one_processor; rising = rising_filtered job_of _ 0 state.given state.tokens k.rising }
 
 pub kept : (step : Step) (state : GivenJobs) → MayStep step state → AreGiven state → AreGiven (stepped step state)
 kept (Give cpu with_token) state may k = by_refused (is_refused with_token state)

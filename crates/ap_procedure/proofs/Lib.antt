@@ -1,5 +1,3 @@
 pub mod JobLemmas
 pub mod KeptLemmas
 pub mod LawLemmas
-pub mod OrderLemmas
-pub mod RisingLemmas

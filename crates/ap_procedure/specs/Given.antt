@@ -1,7 +1,8 @@
 -- The jobs that processors were given and the tokens by which they are asked for, and what each call makes of them.
-use Rattle.std.specs.Prelude.{ℕ, ◌+◌, ◌<◌, ◌≤◌, Bool, ◌&&◌, ◌==◌, not, cond, map, List, [], ◌∷◌, ◌++◌, length, replicate, slice_index_or, slice_set, Option, Some, None}
+use Rattle.std.specs.Prelude.{ℕ, ◌+◌, Bool, ◌&&◌, ◌==◌, not, cond, map, List, [], ◌∷◌, ◌++◌, length, replicate, slice_index_or, slice_set, Option, Some, None}
 use Rattle.std.specs.List.{find, filter}
 use Rattle.std.specs.Option.{option_map}
+use Rattle.slab_order.specs.Numbered.{IsRisingBy}
 use Rattle.smm_base.specs.declared.status.Status.{Status}
 use Rattle.ap_procedure.specs.declared.token.Token.{Token}
 use Rattle.ap_procedure.specs.declared.token.TokenState.{TokenState}
@@ -22,9 +23,12 @@ no_jobs n = record { uncollected = replicate n None; tokens = []; given = 0 }
 abbrev pub job_at : ℕ → GivenJobs → Option ℕ
 job_at cpu state = slice_index_or state.uncollected cpu None
 
+abbrev pub job_of : Token → ℕ
+job_of token = token.job
+
 -- the token is of this job
 abbrev pub is_of : ℕ → Token → Bool
-is_of job token = token.job == job
+is_of job token = job_of token == job
 
 -- the state of the job's token, where one is out
 abbrev pub state_of : ℕ → List Token → Option TokenState
@@ -71,5 +75,4 @@ dropped job state = record state { tokens = without job state.tokens }
 
 -- the tokens' job numbers rise, from above the first bound to at most the second
 abbrev pub IsRising : ℕ → ℕ → List Token → Type 0
-IsRising above last [] = Unit {0}
-IsRising above last (t ∷ rest) = (above < t.job) × (t.job ≤ last) × IsRising t.job last rest
+IsRising above last tokens = IsRisingBy job_of above last tokens

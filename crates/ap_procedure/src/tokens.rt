@@ -24,7 +24,7 @@ pub struct Tokens {
 impl Model for Tokens {
     ghost use Rattle.std.specs.Prelude.{List, vec_capacity};
     ghost use Rattle.ap_procedure.specs.declared.token.Token.{Token};
-    ghost use Rattle.ap_procedure.specs.Order.{values_at};
+    ghost use Rattle.slab_order.specs.Order.{values_at};
     ghost use Rattle.ap_procedure.specs.Kept.{IsKept};
 
     ghost Value = { List Token };

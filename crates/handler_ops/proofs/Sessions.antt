@@ -316,7 +316,7 @@ course_leads t there course (u ∷ us) sound allowed =
     (turn_leads t there course u sound allowed.0)
     (course_leads t (is_held u.now) (course_after t course u) us (turn_sound t there course u sound allowed.0) allowed.1)
 
-stands_along : (program : Program) (w : ℕ) (kinds : List HandlerType) (s : Serving) (p : Place) (es fs : List Event) (q : Place)
+pub stands_along : (program : Program) (w : ℕ) (kinds : List HandlerType) (s : Serving) (p : Place) (es fs : List Event) (q : Place)
     → StandsFor program w kinds s p es → Leads program p fs q → StandsFor program w kinds s q (es ++ fs)
 stands_along program w kinds s p es [] q h k =
     subst (λ (x : Place). StandsFor program w kinds s x (es ++ [])) k (subst (λ (xs : List Event). StandsFor program w kinds s p xs) (sym (append-nil es)) h)

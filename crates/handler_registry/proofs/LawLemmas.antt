@@ -6,11 +6,16 @@ use Rattle.std.proofs.lemmas.Bool.{cases_eq}
 use Rattle.std.proofs.lemmas.Grind.{common_steps}
 use Rattle.std.proofs.lemmas.List.Folds.{find-append}
 use Rattle.smm_base.specs.declared.kinds.HandlerType.{HandlerType}
+use Rattle.slab_order.specs.Numbered.{without}
+use Rattle.slab_order.proofs.RisingLemmas.{rising_pushed, rising_filtered}
 use Rattle.handler_registry.specs.declared.registration.Registration.{Registration}
-use Rattle.handler_registry.specs.Registrations.{Registrations, has_serial, is_full, is_on_after, registered, next_of, IsRising, IsRegistered}
+use Rattle.handler_registry.specs.Registrations.{Registrations, serial_of, has_serial, is_full, is_on_after, registered, next_of, IsRising, IsRegistered}
 use Rattle.handler_registry.specs.Changes.{Change, changed, all_changed, live_at}
 use Rattle.handler_registry.specs.Changes.Change.{Register, Unregister}
-use Rattle.handler_registry.proofs.RisingLemmas.{others, rising_pushed, rising_filtered}
+
+-- all but those with this serial number
+abbrev pub others : ℕ → List Registration → List Registration
+others serial rs = without serial_of serial rs
 
 none_found : (serial : ℕ) (rs : List Registration) → find (has_serial serial) (others serial rs) ≡ None
 none_found serial [] = refl
@@ -90,12 +95,12 @@ kept (Register kind handler) state k = by_full (is_full state) refl
         let few : length state.live ≤ 64 = k.few in
         record {
           few = grind (arith, common_steps, e, few);
-          rising = rising_pushed 0 state.last state.live (record { serial = state.last + 1; kind = kind; handler = handler }) refl (omega arith) k.rising;
+          rising = rising_pushed serial_of 0 state.last state.live (record { serial = state.last + 1; kind = kind; handler = handler }) refl (omega arith) k.rising;
         }
 kept (Unregister x) state k =
     record {
       few = omega (arith, k.few, fewer_others x state.live);
-      rising = rising_filtered _ 0 state.last state.live k.rising;
+      rising = rising_filtered serial_of _ 0 state.last state.live k.rising;
     }
 
 -- the registrations of a rising list are above its bound

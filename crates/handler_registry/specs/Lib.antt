@@ -1,4 +1,3 @@
 pub mod Changes
 pub mod Kept
-pub mod Order
 pub mod Registrations

@@ -1,7 +1,8 @@
 -- What is registered: the handlers of each list, and what each call makes of it.
-use Rattle.std.specs.Prelude.{ℕ, ◌+◌, ◌<◌, ◌≤◌, Bool, true, false, ◌&&◌, ◌||◌, ◌==◌, nat_lt, not, List, [], ◌∷◌, ◌++◌, length, Option}
+use Rattle.std.specs.Prelude.{ℕ, ◌+◌, ◌≤◌, Bool, true, false, ◌&&◌, ◌||◌, ◌==◌, nat_lt, not, List, [], ◌∷◌, ◌++◌, length, Option}
 use Rattle.std.specs.List.{find, filter, list_any}
 use Rattle.std.specs.Option.{option_map}
+use Rattle.slab_order.specs.Numbered.{IsRisingBy}
 use Rattle.smm_base.specs.declared.kinds.HandlerType.{HandlerType}
 use Rattle.smm_base.specs.declared.kinds.HandlerType.TheVariants.{Root, Typed}
 use Rattle.handler_registry.specs.declared.registration.Registration.{Registration}
@@ -22,8 +23,11 @@ is_same_list Root (Typed b) = false
 is_same_list (Typed a) Root = false
 is_same_list (Typed a) (Typed b) = a == b
 
+abbrev pub serial_of : Registration → ℕ
+serial_of registration = registration.serial
+
 abbrev pub has_serial : ℕ → Registration → Bool
-has_serial serial registration = registration.serial == serial
+has_serial serial registration = serial_of registration == serial
 
 -- a live registration has this serial number
 abbrev pub is_live : ℕ → Registrations → Bool
@@ -59,8 +63,7 @@ next_of kind after state = option_map (λ r. r.serial) (find (is_on_after kind a
 
 -- the serial numbers rise, from above the first bound to at most the second
 abbrev pub IsRising : ℕ → ℕ → List Registration → Type 0
-IsRising above last [] = Unit {0}
-IsRising above last (r ∷ rest) = (above < r.serial) × (r.serial ≤ last) × IsRising r.serial last rest
+IsRising above last registrations = IsRisingBy serial_of above last registrations
 
 -- what calls can make of no registrations
 pub record IsRegistered (state : Registrations) : Type 0 where

@@ -3,7 +3,7 @@ ghost use Rattle.std.specs.Prelude.{position, false, IfNone, All};
 ghost use Rattle.std.specs.List.{find};
 ghost use Rattle.std.specs.Option.{option_map_or};
 ghost use Rattle.slab.specs.Slab.{get};
-ghost use Rattle.handler_registry.specs.Order.{values_at};
+ghost use Rattle.slab_order.specs.Order.{values_at};
 ghost use Rattle.handler_registry.specs.Registrations.{is_same_list, has_serial, is_on_after, no_registrations, is_live, is_full, registered, unregistered, handler_at, next_of, IsRegistered};
 
 use crate::registration::Registration;
@@ -69,7 +69,7 @@ pub struct Registry {
 impl Model for Registry {
     ghost use Rattle.std.specs.Prelude.{vec_capacity};
     ghost use Rattle.handler_registry.specs.Registrations.{Registrations};
-    ghost use Rattle.handler_registry.specs.Order.{values_at};
+    ghost use Rattle.slab_order.specs.Order.{values_at};
     ghost use Rattle.handler_registry.specs.Kept.{IsKept};
 
     ghost Value = { Registrations };

@@ -1,10 +1,11 @@
-ghost use Rattle.std.specs.Prelude.{◌≡◌, ◌≢◌, ◌*◌, ◌≤◌, List, length, Some, None, Err, IfOk, IfErr, MatchResult};
+ghost use Rattle.std.specs.Prelude.{◌≡◌, ◌≢◌, ◌*◌, ◌≤◌, nat_eq, List, length, Some, None, Err, IfOk, IfErr, MatchResult};
+ghost use Rattle.std.specs.List.{starts_with};
 ghost use Rattle.save_state_map.specs.Fields.{image_length};
 ghost use Rattle.save_state_map.specs.Images.{ImageContents};
 ghost use Rattle.image_file.specs.declared.error.ImagesError.{ImagesError};
 ghost use Rattle.image_file.specs.declared.error.ImagesError.TheVariants.{NoMemory};
-ghost use Rattle.image_file.specs.Spelling.{IsSpelling};
-ghost use Rattle.image_file.specs.Refusals.{kind_number_of, kind_numbered, count_of, whole_length, refusal_of};
+ghost use Rattle.image_file.specs.Spelling.{magic, IsSpelling};
+ghost use Rattle.image_file.specs.Refusals.{version_of, kind_number_of, kind_numbered, count_of, whole_length, refusal_of};
 ghost use Rattle.image_file.specs.Contents.{images_at, images_in};
 
 use crate::error::ImagesError;
@@ -48,19 +49,19 @@ fn checked(bytes: &[u8]) -> Result<(MapKind, u32), ImagesError>
     if size < HEADER {
         return Err(ImagesError::Short(size));
     }
-    if !bytes.starts_with(b"SMIM") {
+    if !has_magic(bytes) {
         return Err(ImagesError::Magic);
     }
-    let version = LittleEndian::read_u16(&bytes[4..]);
+    let version = version_of(bytes);
     if version != 1 {
         return Err(ImagesError::Version(version));
     }
-    let number = LittleEndian::read_u16(&bytes[6..]);
+    let number = kind_number_of(bytes);
     if number > 1 {
         return Err(ImagesError::Kind(number));
     }
     let kind = kind_of(number);
-    let count = LittleEndian::read_u32(&bytes[8..]);
+    let count = count_of(bytes);
     if count == 0 || count > MOST {
         return Err(ImagesError::Count(count));
     }
@@ -72,6 +73,33 @@ fn checked(bytes: &[u8]) -> Result<(MapKind, u32), ImagesError>
         return Err(ImagesError::Long(size));
     }
     Ok((kind, count))
+}
+
+fn has_magic(file: &[u8]) -> bool
+    ensures { result ≡ starts_with nat_eq file.now magic }
+{
+    file.starts_with(b"SMIM")
+}
+
+fn version_of(file: &[u8]) -> u16
+    requires { 12 ≤ length file.now }
+    ensures { result ≡ version_of file.now }
+{
+    LittleEndian::read_u16(&file[4..])
+}
+
+fn kind_number_of(file: &[u8]) -> u16
+    requires { 12 ≤ length file.now }
+    ensures { result ≡ kind_number_of file.now }
+{
+    LittleEndian::read_u16(&file[6..])
+}
+
+fn count_of(file: &[u8]) -> u32
+    requires { 12 ≤ length file.now }
+    ensures { result ≡ count_of file.now }
+{
+    LittleEndian::read_u32(&file[8..])
 }
 
 fn kind_of(number: u16) -> MapKind

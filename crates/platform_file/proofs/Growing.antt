@@ -13,14 +13,14 @@ and_both : (a b : Bool) → a ≡ true → b ≡ true → a && b ≡ true
 and_both true b x y = y
 and_both false b x y = x
 
-or_neither : (a b : Bool) → a || b ≡ false → (a ≡ false) × (b ≡ false)
+pub or_neither : (a b : Bool) → a || b ≡ false → (a ≡ false) × (b ≡ false)
 or_neither true b x = absurd (false≢true (sym x))
 or_neither false b x = (refl, x)
 
 neither_or : (a b : Bool) → a ≡ false → b ≡ false → a || b ≡ false
 neither_or a b x y = rw (x, y)
 
-not_false : (a : Bool) → not a ≡ true → a ≡ false
+pub not_false : (a : Bool) → not a ≡ true → a ≡ false
 not_false true x = absurd (false≢true x)
 not_false false x = refl
 

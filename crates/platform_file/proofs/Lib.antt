@@ -1,3 +1,4 @@
+pub mod Distinct
 pub mod Documents
 pub mod Fits
 pub mod Growing

@@ -6,12 +6,15 @@ use Rattle.std.specs.Str.{bytes_eq}
 use Rattle.toml.specs.Data.{Data, Members, get, as_str}
 use Rattle.cpu_table.specs.declared.handlers.OpDef.{OpDef}
 use Rattle.cpu_table.specs.declared.handlers.OpDef.TheVariants as op
+use Rattle.cpu_table.specs.declared.handlers.Operand.{Operand}
 use Rattle.platform_document.specs.declared.path.TablePlace.{TablePlace}
 use Rattle.platform_document.specs.declared.path.TablePlace.TheVariants as place
 use Rattle.platform_document.specs.declared.path.Key.{Key}
 use Rattle.platform_document.specs.declared.path.Key.TheVariants as key
 use Rattle.platform_document.specs.declared.word.OperationWord.{OperationWord}
 use Rattle.platform_document.specs.declared.word.OperationWord.TheVariants as word
+use Rattle.platform_file.specs.declared.operations.Run.{Run}
+use Rattle.platform_file.specs.declared.operations.Run.TheVariants as run
 use Rattle.platform_document.specs.Path.{key_text}
 use Rattle.platform_document.specs.Reading.{Reading, read_then, path_to, entry_of, text_at, word_at, and_no_other}
 use Rattle.platform_document.specs.Words.{operation_word}
@@ -53,19 +56,23 @@ write_in place table =
     read_then (width_at place table) (λ width.
     read_then (operand_at (path_to place key.Value) table) (λ value. Ok (op.Write cpu reg width value)))))
 
-abbrev pub start_in : TablePlace → Members → Reading OpDef
-start_in place table =
+-- what `start` and `launch` make of the same keys
+abbrev pub run_made : Run → ℕ → List ℕ → Operand → ℕ → OpDef
+run_made run.Start cpu procedure arg into = op.Start cpu procedure arg into
+run_made run.Launch cpu procedure arg into = op.Launch cpu procedure arg into
+
+abbrev pub run_in : Run → TablePlace → Members → Reading OpDef
+run_in which place table =
     read_then (cpu_at place table) (λ cpu.
     read_then (text_at (path_to place key.Procedure) table) (λ procedure.
     read_then (operand_at (path_to place key.Arg) table) (λ arg.
-    read_then (into_at place table) (λ into. Ok (op.Start cpu procedure arg into)))))
+    read_then (into_at place table) (λ into. Ok (run_made which cpu procedure arg into)))))
+
+abbrev pub start_in : TablePlace → Members → Reading OpDef
+start_in place table = run_in run.Start place table
 
 abbrev pub launch_in : TablePlace → Members → Reading OpDef
-launch_in place table =
-    read_then (cpu_at place table) (λ cpu.
-    read_then (text_at (path_to place key.Procedure) table) (λ procedure.
-    read_then (operand_at (path_to place key.Arg) table) (λ arg.
-    read_then (into_at place table) (λ into. Ok (op.Launch cpu procedure arg into)))))
+launch_in place table = run_in run.Launch place table
 
 abbrev pub check_in : TablePlace → Members → Reading OpDef
 check_in place table = read_then (operand_at (path_to place key.Token) table) (λ token. Ok (op.Check token))

@@ -7,6 +7,7 @@ mod causes;
 mod error;
 mod handlers;
 mod head;
+mod laws;
 mod operations;
 mod platform;
 mod procedures;
@@ -14,5 +15,6 @@ mod waves;
 
 pub use cpu_table::LayoutError;
 pub use error::PlatformError;
+pub use laws::distinct_laws;
 pub use platform::read_platform;
 pub use schedule_file::{ScheduleError, read_schedule};

@@ -3,7 +3,7 @@ ghost use Rattle.std.specs.List.{list_all, position};
 ghost use Rattle.toml.specs.View.{view, table_view};
 ghost use Rattle.cpu_table.specs.Ranges.{op_fits};
 ghost use Rattle.platform_document.specs.Reading.{StopsAt, each, path_to};
-ghost use Rattle.platform_file.specs.Operations.{handler_named, handler_at, has_name, set_in, read_in, write_in, start_in, launch_in, check_in, wait_in, alloc_in, free_in, register_in, unregister_in, manage_in, operation_by, operation_keys, operation_in, operation_after};
+ghost use Rattle.platform_file.specs.Operations.{handler_named, handler_at, has_name, set_in, read_in, write_in, run_in, check_in, wait_in, alloc_in, free_in, register_in, unregister_in, manage_in, operation_by, operation_keys, operation_in, operation_after};
 
 use cpu_table::{OpDef, Text};
 use platform_document::{
@@ -99,38 +99,39 @@ fn write_in(table: &Table, place: TablePlace) -> Result<OpDef, WalkFault>
     })
 }
 
-fn start_in(alloc: Global, table: &Table, place: TablePlace) -> Result<OpDef, WalkFault>
-    ensures operation { IfOk result (λ operation. start_in place (table_view table.now) ≡ Ok operation) }
-    ensures fits { IfOk result (λ operation. IsTrue (op_fits 0 operation)) }
-    ensures refused { IfErr result (StopsAt (start_in place (table_view table.now))) }
-{
-    let cpu = cpu_at(table, place)?;
-    let procedure = text_at(alloc, table, path_to(place, Key::Procedure))?;
-    let arg = operand_at(table, path_to(place, Key::Arg))?;
-    let into = into_at(table, place)?;
-    Ok(OpDef::Start {
-        cpu,
-        procedure,
-        arg,
-        into,
-    })
+// How an operation has a processor run a procedure.
+#[derive(Clone, Copy)]
+enum Run {
+    // The processor that asks waits for it.
+    Start,
+    // It goes on.
+    Launch,
 }
 
-fn launch_in(alloc: Global, table: &Table, place: TablePlace) -> Result<OpDef, WalkFault>
-    ensures operation { IfOk result (λ operation. launch_in place (table_view table.now) ≡ Ok operation) }
+// The keys of `start` and `launch`, which are the same.
+fn run_in(alloc: Global, table: &Table, place: TablePlace, run: Run) -> Result<OpDef, WalkFault>
+    ensures operation { IfOk result (λ operation. run_in run place (table_view table.now) ≡ Ok operation) }
     ensures fits { IfOk result (λ operation. IsTrue (op_fits 0 operation)) }
-    ensures refused { IfErr result (StopsAt (launch_in place (table_view table.now))) }
+    ensures refused { IfErr result (StopsAt (run_in run place (table_view table.now))) }
 {
     let cpu = cpu_at(table, place)?;
     let procedure = text_at(alloc, table, path_to(place, Key::Procedure))?;
     let arg = operand_at(table, path_to(place, Key::Arg))?;
     let into = into_at(table, place)?;
-    Ok(OpDef::Launch {
-        cpu,
-        procedure,
-        arg,
-        into,
-    })
+    match run {
+        Run::Start => Ok(OpDef::Start {
+            cpu,
+            procedure,
+            arg,
+            into,
+        }),
+        Run::Launch => Ok(OpDef::Launch {
+            cpu,
+            procedure,
+            arg,
+            into,
+        }),
+    }
 }
 
 fn check_in(table: &Table, place: TablePlace) -> Result<OpDef, WalkFault>
@@ -215,8 +216,8 @@ fn operation_by(
         OperationWord::Set => set_in(table, place),
         OperationWord::Read => read_in(table, place),
         OperationWord::Write => write_in(table, place),
-        OperationWord::Start => start_in(alloc, table, place),
-        OperationWord::Launch => launch_in(alloc, table, place),
+        OperationWord::Start => run_in(alloc, table, place, Run::Start),
+        OperationWord::Launch => run_in(alloc, table, place, Run::Launch),
         OperationWord::Check => check_in(table, place),
         OperationWord::Wait => wait_in(table, place),
         OperationWord::Alloc => alloc_in(table, place),

@@ -1,9 +1,9 @@
 -- The keys of the top table.
-use Rattle.std.proofs.Common.{◌≡◌, ℕ, zero, suc, pos, ◌+◌, ◌-◌, ◌<◌, ◌≤◌, Bool, true, false, not, ◌&&◌, ◌||◌, ◌==◌, List, [], ◌∷◌, ◌++◌, length, Option, Some, None, Ok, Err, refl, ap, sym, subst, ◌∙◌, codes, lt-ltb, if◌then◌else◌, arith}
+use Rattle.std.proofs.Common.{◌≡◌, ℕ, zero, suc, pos, ◌+◌, ◌-◌, ◌<◌, ◌≤◌, Bool, true, false, not, ◌||◌, ◌==◌, List, [], ◌∷◌, ◌++◌, length, Option, Some, None, Ok, Err, refl, ap, sym, subst, ◌∙◌, codes, lt-ltb, if◌then◌else◌, arith}
 use Rattle.std.specs.Prelude.{MatchOption, Result}
 use Rattle.std.specs.List.{list_any, list_all, range_with_len}
 use Rattle.std.specs.Str.{bytes_eq}
-use Rattle.std.proofs.lemmas.Bool.{and_from, ltb-true, ne_eqb, false≢true}
+use Rattle.std.proofs.lemmas.Bool.{and_from, ltb-true, ne_eqb}
 use Rattle.std.proofs.lemmas.List.FromFn.{length-range_with_len}
 use Rattle.toml.specs.Data.{Data, integer, Items, no_items, item, Members}
 use Rattle.smm_base.specs.declared.kinds.MapKind.{MapKind}
@@ -18,19 +18,17 @@ use Rattle.platform_file.specs.declared.head.Head.{Head}
 use Rattle.platform_file.specs.declared.head.Polls.{Polls}
 use Rattle.platform_document.specs.declared.word.PolicyWord.{PolicyWord}
 use Rattle.platform_document.specs.declared.word.PolicyWord.TheVariants as policy
-use Rattle.platform_document.specs.Path.{key_text}
 use Rattle.platform_document.specs.Reading.{Reading, read_then, found_at, list_at, list_of, number_value, number_at, word_at, each, is_known, data_list}
 use Rattle.platform_document.specs.Words.{map_of, policy_of, mode_of}
 use Rattle.platform_document.specs.Reading.{greatest}
-use Rattle.platform_file.specs.Head.{top, policy_by, policy_at, polls_in, polls_at, id_after, ids_of, ids_by, ids_at, keys_by, keys_read}
+use Rattle.platform_file.specs.Head.{top, policy_by, policy_at, polls_in, polls_at, id_after, ids_by, ids_at, keys_by, keys_read}
 use Rattle.platform_laws.specs.Words.{map_text, policy_text, mode_text}
 use Rattle.platform_laws.specs.Values.{SaysNumber, SaysText, SaysList, SaysOr, IsListOf, EachSays}
 use Rattle.platform_laws.specs.Says.{SaysFixed, names_by, top_names}
 use Rattle.platform_laws.specs.Fits.{is_integer}
-use Rattle.platform_laws.proofs.Readings.{split, joined, same_ok, err_ok, value_said, value_read, number_said, number_read, word_said, word_read, list_said, list_read, list_value_said, list_value_read}
+use Rattle.platform_laws.proofs.Readings.{split, joined, same_ok, err_ok, value_said, value_read, number_said, number_read, word_read, list_said, list_read, list_value_said, list_value_read}
 use Rattle.platform_laws.proofs.Words.{map_said, map_read, policy_word_text, policy_word_said, mode_said, mode_read}
 use Rattle.platform_laws.proofs.Parts.{word_is}
-use Rattle.platform_laws.proofs.Lists.{EachFits}
 use Rattle.platform_laws.proofs.Growth as growth
 
 if_err : {A E : Type 0} (b : Bool) (x y : A) (e : E) → ◌≡◌ {A = Result A E} (if b then Err e else Ok x) (Ok y) → (b ≡ false) × (x ≡ y)
@@ -121,7 +119,7 @@ IdFits done id = (is_integer id ≡ true) × (true ≡ true) × (list_any (λ x.
 abbrev pub IdsFit : ℕ → List ℕ → Type 0
 IdsFit n ids = (length ids ≡ n) × (are_distinct (λ a b. a == b) ids ≡ true) × (list_all is_integer ids ≡ true)
 
-id_said : (done : List ℕ) (v : Data) (id : ℕ) → id_after done v ≡ Ok id → IsId v id × IdFits done id
+pub id_said : (done : List ℕ) (v : Data) (id : ℕ) → id_after done v ≡ Ok id → IsId v id × IdFits done id
 id_said done v id is =
     let (x, there, rest) = split (number_value (top key.Ids) 0 greatest v) (λ y. if list_any (λ z. z == y) done then Err (Range (top key.Ids) (pos y)) else Ok y) id is in
     let (says, low, high) = value_said (top key.Ids) 0 greatest v x there in

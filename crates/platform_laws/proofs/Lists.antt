@@ -1,7 +1,7 @@
 -- Lists that are read element by element.
-use Rattle.std.proofs.Common.{◌≡◌, ℕ, suc, ◌+◌, ◌≤◌, Bool, true, false, List, [], ◌∷◌, ◌++◌, length, map, Option, Some, None, Ok, Err, refl, ap, sym, ◌∙◌, append_assoc}
-use Rattle.toml.specs.Data.{Data, Items, no_items, item, Members}
-use Rattle.platform_document.specs.Reading.{Reading, read_then, data_list, each}
+use Rattle.std.proofs.Common.{◌≡◌, suc, List, [], ◌∷◌, ◌++◌, length, Ok, refl, ap, sym, ◌∙◌}
+use Rattle.toml.specs.Data.{Data, Items, no_items, item}
+use Rattle.platform_document.specs.Reading.{Reading, data_list, each}
 use Rattle.platform_laws.specs.Values.{EachSays}
 use Rattle.platform_laws.proofs.Readings.{split, joined, same_ok}
 

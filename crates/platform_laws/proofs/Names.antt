@@ -1,22 +1,22 @@
 -- A name of the file stands for the place of the handler that has it.
-use Rattle.std.proofs.Common.{◌≡◌, ℕ, zero, suc, ◌+◌, ◌<◌, ◌≤◌, Bool, true, false, not, ◌&&◌, ◌||◌, nat_lt, List, [], ◌∷◌, length, get_or, map, Option, Some, None, Ok, cond, codes, refl, ap, sym, subst, ◌∙◌, lt-ltb, arith}
-use Rattle.std.specs.Prelude.{slice_get, MatchOption}
-use Rattle.std.specs.List.{list_any, position, position_or_len, prefix_len}
+use Rattle.std.proofs.Common.{◌≡◌, ℕ, zero, suc, ◌+◌, ◌<◌, Bool, true, false, not, ◌||◌, nat_lt, List, [], ◌∷◌, length, get_or, map, Some, None, cond, refl, ap, sym, subst, ◌∙◌, lt-ltb, arith}
+use Rattle.std.specs.Prelude.{slice_get}
+use Rattle.std.specs.List.{list_any, position_or_len}
 use Rattle.std.specs.Option.{option_and_then}
 use Rattle.std.specs.Str.{bytes_eq}
 use Rattle.std.proofs.lemmas.Bool.{and_parts, false≢true}
 use Rattle.std.proofs.lemmas.Option.{same_Some, none-some}
 use Rattle.std.proofs.lemmas.List.Quantifiers.{position-Some}
 use Rattle.std.proofs.lemmas.Slice.Eq.{bytes_eq-Decides}
-use Rattle.toml.specs.Data.{Data, boolean, string, table, Items, no_items, item, Members, get, as_str}
+use Rattle.toml.specs.Data.{Data, boolean, Items, no_items, item, Members, as_str}
 use Rattle.cpu_table.specs.Distinct.{are_distinct}
 use Rattle.cpu_table.specs.Ranges.{same_text}
 use Rattle.cpu_table.specs.declared.handlers.HandlerDef.{HandlerDef}
 use Rattle.cpu_table.specs.declared.handlers.OpDef.{OpDef}
 use Rattle.cpu_table.specs.declared.handlers.OpDef.TheVariants as op
 use Rattle.platform_document.specs.Reading.{data_list}
-use Rattle.platform_file.specs.Operations.{text_is, has_name, handler_named}
-use Rattle.platform_laws.specs.Values.{EachSays, IsTableOf, IsListOf}
+use Rattle.platform_file.specs.Operations.{text_is, has_name}
+use Rattle.platform_laws.specs.Values.{EachSays, IsTableOf}
 use Rattle.platform_laws.specs.Says.{SaysParts, SaysOperation, SaysHandlerDef, IsNameAt}
 use Rattle.platform_laws.proofs.Lists.{each_weaker}
 use Rattle.platform_laws.proofs.Parts.{IsFound}

@@ -1,5 +1,5 @@
 -- The operations of handlers.
-use Rattle.std.proofs.Common.{◌≡◌, ℕ, Bool, true, false, ◌&&◌, nat_lt, nat_le, List, [], ◌∷◌, length, Option, Some, Ok, refl, ap, sym, subst, ◌∙◌, codes}
+use Rattle.std.proofs.Common.{◌≡◌, ℕ, true, ◌&&◌, nat_lt, nat_le, List, ◌∷◌, length, Some, Ok, refl, ap, sym, subst, ◌∙◌, codes}
 use Rattle.std.specs.List.{list_any}
 use Rattle.std.specs.Str.{bytes_eq}
 use Rattle.std.proofs.lemmas.Bool.{and_parts, and_from}
@@ -16,16 +16,16 @@ use Rattle.platform_document.specs.declared.path.Key.TheVariants as key
 use Rattle.platform_document.specs.declared.word.OperationWord.{OperationWord}
 use Rattle.platform_document.specs.declared.word.OperationWord.TheVariants as word
 use Rattle.platform_document.specs.Words.{operation_word}
-use Rattle.platform_document.specs.Reading.{Reading, read_then, path_to, text_at, word_at, entry_of, is_known, and_no_other}
+use Rattle.platform_document.specs.Reading.{read_then, path_to, text_at, word_at, entry_of, is_known, and_no_other}
 use Rattle.platform_document.specs.CommonKeys.{cpu_at, register_at, width_at, into_at, kind_at}
 use Rattle.platform_file.specs.Operations.{handler_at, set_in, read_in, write_in, start_in, launch_in, check_in, wait_in, alloc_in, free_in, register_in, unregister_in, manage_in, operation_by, operation_keys, operation_as, operation_in, operation_after}
 use Rattle.platform_document.specs.Operands.{operand_at}
-use Rattle.platform_laws.specs.Words.{operation_text}
-use Rattle.platform_laws.specs.Values.{SaysNumber, SaysText, IsTableOf}
+use Rattle.platform_laws.specs.Words.{operation_text, word_text}
+use Rattle.platform_laws.specs.Values.{IsTableOf}
 use Rattle.platform_laws.specs.Says.{SaysParts, parts_of, SaysOperation}
 use Rattle.platform_laws.specs.Fits.{names_word}
-use Rattle.platform_laws.proofs.Readings.{split, joined, same_ok, text_said, text_read, word_said, word_read, entry_said, entry_read, others_said, others_read}
-use Rattle.platform_laws.proofs.Words.{word_text, operation_word_said, operation_word_read}
+use Rattle.platform_laws.proofs.Readings.{split, joined, same_ok, text_said, text_read, word_read, entry_said, entry_read, others_said, others_read}
+use Rattle.platform_laws.proofs.Words.{operation_word_said, operation_word_read}
 use Rattle.platform_laws.proofs.Operands.{operand_said, operand_read}
 use Rattle.platform_laws.proofs.Parts.{cpu_said, cpu_read, width_said, width_read, reg_said, reg_read, into_said, into_read, kind_at_said, kind_at_read, IsFound, handler_at_said, handler_at_read, word_is}
 

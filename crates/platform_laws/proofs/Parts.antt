@@ -1,10 +1,9 @@
 -- The parts that several operations have.
-use Rattle.std.proofs.Common.{◌≡◌, ℕ, ◌<◌, ◌≤◌, Bool, true, nat_lt, nat_le, List, length, Option, Some, Ok, refl, ap, sym, subst, ◌∙◌, codes, le-leb, lt-ltb, arith}
+use Rattle.std.proofs.Common.{◌≡◌, ℕ, true, nat_lt, nat_le, List, length, Option, Some, Ok, refl, ap, sym, subst, ◌∙◌, codes, le-leb, lt-ltb, arith}
 use Rattle.std.proofs.lemmas.Bool.{leb-true}
 use Rattle.std.proofs.lemmas.List.Quantifiers.{position-Some}
 use Rattle.toml.specs.Data.{Data, string, boolean, Members}
 use Rattle.smm_base.specs.Register.{register_text, register_number, register_named, is_register_number}
-use Rattle.smm_base.specs.declared.registers.Register.{Register}
 use Rattle.smm_base.specs.declared.kinds.HandlerType.{HandlerType}
 use Rattle.cpu_table.specs.Ranges.{is_variable}
 use Rattle.platform_document.specs.declared.operand.Variable.{Variable}
@@ -13,7 +12,7 @@ use Rattle.platform_document.specs.declared.path.Key.TheVariants as key
 use Rattle.platform_document.specs.declared.path.Path.{Path}
 use Rattle.platform_document.specs.Path.{key_text}
 use Rattle.platform_document.specs.Words.{variable, variable_of, kind_of}
-use Rattle.platform_document.specs.Reading.{Reading, read_then, path_to, word_at}
+use Rattle.platform_document.specs.Reading.{path_to, word_at}
 use Rattle.platform_document.specs.CommonKeys.{cpu_at, register_at, width_at, into_at, kind_at}
 use Rattle.platform_file.specs.Operations.{has_name, handler_named, handler_at}
 use Rattle.platform_laws.specs.Words.{variable_text}

@@ -1,5 +1,5 @@
 -- What a reading that succeeds has read, and when it succeeds.
-use Rattle.std.proofs.Common.{◌≡◌, ℕ, ℤ, pos, negsuc, ◌≤◌, Bool, true, false, ◌&&◌, nat_le, List, [], ◌∷◌, ◌++◌, length, map, Option, Some, None, Ok, Err, option_map, refl, ap, sym, subst, ◌∙◌, IsTrue, if◌then◌else◌, le-leb}
+use Rattle.std.proofs.Common.{◌≡◌, ℕ, ℤ, pos, negsuc, ◌≤◌, Bool, true, false, ◌&&◌, nat_le, List, length, Option, Some, None, Ok, Err, option_map, refl, ap, sym, subst, ◌∙◌, if◌then◌else◌, le-leb}
 use Rattle.std.specs.Prelude.{ok_or, Result}
 use Rattle.std.specs.List.{list_any}
 use Rattle.std.specs.Str.{bytes_eq}
@@ -9,10 +9,9 @@ use Rattle.toml.specs.Data.{Data, integer, string, boolean, array, table, Items,
 use Rattle.platform_document.specs.declared.path.TablePlace.{TablePlace}
 use Rattle.platform_document.specs.declared.path.Key.{Key}
 use Rattle.platform_document.specs.declared.path.Path.{Path}
-use Rattle.platform_document.specs.declared.fault.WalkFault.{WalkFault}
 use Rattle.platform_document.specs.declared.fault.WalkFault.TheVariants.{Missing, WrongType, NoTable, Word, Range, Unknown}
 use Rattle.platform_document.specs.Path.{key_text}
-use Rattle.platform_document.specs.Reading.{Reading, read_then, found_at, required, integer_of, text_of, flag_of, table_of, entry_of, data_list, counted, list_of, number_within, number_value, word_of, number_at, text_at, word_at, list_at, is_known, unknown_in, unless_unknown, and_no_other}
+use Rattle.platform_document.specs.Reading.{Reading, read_then, found_at, required, integer_of, text_of, table_of, entry_of, data_list, counted, list_of, number_within, number_value, word_of, number_at, text_at, word_at, list_at, is_known, unknown_in, unless_unknown, and_no_other}
 use Rattle.platform_laws.specs.Values.{SaysNumber, SaysText, HasOnly}
 
 abbrev ok_value : {A E : Type 0} → A → Result A E → A

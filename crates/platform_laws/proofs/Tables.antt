@@ -1,11 +1,11 @@
 -- The tables of a platform file but for the top one.
-use Rattle.std.proofs.Common.{◌≡◌, ℕ, pos, ◌+◌, ◌-◌, ◌<◌, ◌≤◌, Bool, true, false, not, ◌&&◌, ◌==◌, nat_lt, nat_le, List, [], ◌∷◌, length, Option, Some, None, Ok, Err, refl, ap, sym, subst, ◌∙◌, codes, le-leb, lt-ltb, IsTrue, if◌then◌else◌, arith}
+use Rattle.std.proofs.Common.{◌≡◌, ℕ, pos, ◌+◌, ◌-◌, ◌≤◌, Bool, true, false, not, ◌&&◌, ◌==◌, nat_lt, nat_le, List, [], ◌∷◌, length, Option, Some, None, Ok, Err, refl, ap, sym, subst, ◌∙◌, codes, le-leb, lt-ltb, IsTrue, if◌then◌else◌, arith}
 use Rattle.std.specs.Prelude.{MatchOption, Result}
 use Rattle.std.specs.List.{list_any, list_all}
 use Rattle.std.proofs.lemmas.Bool.{and_parts, and_from, leb-true, ltb-true, eqb-true, eq-eqb, false≢true}
 use Rattle.std.proofs.lemmas.Bool.Decides.{nat_tests}
 use Rattle.std.proofs.Math.Bool.{Bool-set}
-use Rattle.toml.specs.Data.{Data, integer, string, boolean, table, Members, get_member, as_bool}
+use Rattle.toml.specs.Data.{Data, string, boolean, Members, as_bool}
 use Rattle.smm_base.specs.Register.{is_register_number}
 use Rattle.smm_base.specs.Kinds.{is_io_length, is_io_type}
 use Rattle.smm_base.specs.Status.{status_text}
@@ -26,10 +26,9 @@ use Rattle.platform_document.specs.declared.path.TablePlace.TheVariants.{Smram}
 use Rattle.platform_document.specs.declared.path.TablePlace.TheVariants as place
 use Rattle.platform_document.specs.declared.path.Key.TheVariants as key
 use Rattle.platform_document.specs.declared.path.Path.{Path}
-use Rattle.platform_document.specs.declared.fault.WalkFault.{WalkFault}
 use Rattle.platform_document.specs.declared.fault.WalkFault.TheVariants.{Range, Word, WrongType}
 use Rattle.platform_document.specs.Path.{key_text}
-use Rattle.platform_document.specs.Reading.{Reading, read_then, path_to, found_at, list_at, text_at, word_at, word_of, number_at, flag_of, table_of, entry_of, each, word_after, and_no_other}
+use Rattle.platform_document.specs.Reading.{read_then, path_to, found_at, text_at, word_at, number_at, flag_of, table_of, entry_of, word_after, and_no_other}
 use Rattle.platform_document.specs.Reading.{greatest}
 use Rattle.platform_document.specs.Words.{arrival_of, kind_of, answer_of, start_list_of, act_of}
 use Rattle.platform_file.specs.Area.{size_after, size_at, area_keys, area_in}
@@ -37,16 +36,15 @@ use Rattle.platform_file.specs.Waves.{statuses_at, walks_at, wave_keys, wave_in,
 use Rattle.platform_document.specs.CommonKeys.{register_at}
 use Rattle.platform_file.specs.Operations.{operation_after}
 use Rattle.platform_file.specs.Handlers.{name_unless, name_at, has_handler, has_procedure, operations_at, handler_keys, handler_in, handler_after, procedure_keys, procedure_in, procedure_after}
-use Rattle.platform_file.specs.Causes.{one_of, length_at, type_at, on_true, instruction, io_keys, instruction_in, io_of, io_by, io_at, halt_by, halt_at, is_of, visit_after, visit_at, cause_keys, cause_in, cause_next, cause_after}
-use Rattle.platform_laws.specs.Words.{arrival_text, act_text, IsKind, IsStartList}
-use Rattle.platform_laws.specs.Values.{SaysNumber, SaysText, SaysOr, IsTableOf, IsListOf, SaysStartList}
+use Rattle.platform_file.specs.Causes.{one_of, length_at, type_at, on_true, instruction, io_keys, instruction_in, io_of, io_by, io_at, halt_by, halt_at, is_of, visit_after, visit_at, cause_keys, cause_in, cause_after}
+use Rattle.platform_laws.specs.Words.{arrival_text, act_text, IsKind}
+use Rattle.platform_laws.specs.Values.{SaysNumber, SaysText, IsTableOf}
 use Rattle.platform_laws.specs.Says.{SaysArea, SaysWave, SaysOperation, SaysHandlerDef, SaysProcedure, SaysIo, SaysOption, SaysCause}
 use Rattle.platform_laws.specs.Fits.{names_word, names_words, port_is_word, has_port}
-use Rattle.platform_laws.proofs.Readings.{split, joined, same_ok, err_ok, if_ok, ok_if, some_of, of_some, boolean_is, number_said, number_read, text_said, text_read, word_value_said, word_value_read, word_said, word_read, entry_said, entry_read, table_said, table_read, others_said, others_read}
+use Rattle.platform_laws.proofs.Readings.{split, joined, same_ok, err_ok, if_ok, ok_if, some_of, boolean_is, number_said, number_read, text_said, text_read, word_value_said, word_value_read, word_said, word_read, entry_said, entry_read, table_said, table_read, others_said, others_read}
 use Rattle.platform_laws.proofs.Words.{arrival_said, arrival_read, act_said, act_read, answer_said, answer_read, kind_said, kind_read, start_list_said, start_list_read}
 use Rattle.platform_laws.proofs.Parts.{word_is, reg_said, reg_read, IsFound}
 use Rattle.platform_laws.proofs.Operations.{OperationFits, entry_operation_said, entry_operation_read}
-use Rattle.platform_laws.proofs.Lists.{EachFits}
 use Rattle.platform_laws.proofs.Growth.{each_all, each_any, each_both, list_each_said, list_each_read}
 
 if_err : {A E : Type 0} (b : Bool) (x y : A) (e : E) → ◌≡◌ {A = Result A E} (if b then Err e else Ok x) (Ok y) → (b ≡ false) × (x ≡ y)
@@ -289,10 +287,10 @@ instruction_is : (port length kind : ℕ) (length_is_valid : IsTrue (is_io_lengt
     instruction port length kind ≡ Some (record { port = port; length = length; kind = kind; length_is_valid = length_is_valid; kind_is_valid = kind_is_valid })
 instruction_is port length kind length_is_valid kind_is_valid = passing (is_io_length length) length_is_valid _ ∙ passing (is_io_type kind) kind_is_valid _
 
-length_below : (n : ℕ) → is_io_length n ≡ true → n ≤ 255
+pub length_below : (n : ℕ) → is_io_length n ≡ true → n ≤ 255
 length_below n is = grind (arith, nat_tests)
 
-type_below : (n : ℕ) → is_io_type n ≡ true → n ≤ 255
+pub type_below : (n : ℕ) → is_io_type n ≡ true → n ≤ 255
 type_below n is = grind (arith, nat_tests)
 
 -- an I/O instruction that a table says

@@ -1,14 +1,14 @@
 -- A whole document: what is read is what it says, and the other way round.
-use Rattle.std.proofs.Common.{◌≡◌, ℕ, ◌+◌, ◌*◌, ◌<◌, ◌≤◌, Bool, true, false, ◌&&◌, nat_le, List, [], ◌∷◌, ◌++◌, length, Option, Some, None, Ok, Err, refl, ap, sym, subst, ◌∙◌, codes, le-leb, if◌then◌else◌, arith}
-use Rattle.std.specs.Prelude.{MatchOption, slice_get}
+use Rattle.std.proofs.Common.{◌≡◌, ℕ, ◌≤◌, Bool, true, ◌&&◌, nat_le, List, [], ◌++◌, length, Option, Some, None, Ok, refl, ap, sym, subst, ◌∙◌, codes, le-leb, arith}
+use Rattle.std.specs.Prelude.{MatchOption}
 use Rattle.std.specs.List.{list_all}
 use Rattle.std.proofs.lemmas.Bool.{and_parts, and_from, leb-true, false≢true}
 use Rattle.std.proofs.lemmas.Option.{same_Some, none-some}
-use Rattle.toml.specs.Data.{Data, table, array, Items, Members, get_member, as_array}
+use Rattle.toml.specs.Data.{Data, array, Items, Members, get_member, as_array}
 use Rattle.cpu_table.specs.Data.{SetupData}
 use Rattle.cpu_table.specs.Distinct.{are_distinct}
 use Rattle.cpu_table.specs.Layout.{layout_refusal, layout_fits, is_accepted}
-use Rattle.cpu_table.specs.Ranges.{is_between, area_fits, smram_fits, wave_fits, waves_fit, handler_fits, handlers_fit, procedure_fits, procedures_fit, cause_fits, causes_fit, same_text, same_visit}
+use Rattle.cpu_table.specs.Ranges.{is_between, smram_fits, wave_fits, waves_fit, handler_fits, handlers_fit, procedure_fits, procedures_fit, cause_fits, causes_fit, same_text, same_visit}
 use Rattle.cpu_table.specs.declared.layout.LayoutError.{LayoutError}
 use Rattle.cpu_table.specs.declared.setup.Smram.{Smram as Area}
 use Rattle.cpu_table.specs.declared.setup.CauseAt.{CauseAt}
@@ -20,27 +20,26 @@ use Rattle.platform_document.specs.declared.path.Key.TheVariants as key
 use Rattle.platform_document.specs.declared.path.Path.{Path}
 use Rattle.platform_document.specs.declared.fault.WalkFault.TheVariants as fault
 use Rattle.platform_file.specs.declared.head.Head.{Head}
-use Rattle.platform_file.specs.declared.head.Polls.{Polls}
-use Rattle.platform_document.specs.Reading.{Reading, read_then, found_at, optional, table_of, list_of, list_at, entries_of, entries_at, data_list, each, and_no_other}
+use Rattle.platform_document.specs.Reading.{read_then, found_at, optional, table_of, entries_of, data_list, each, and_no_other}
 use Rattle.platform_file.specs.Head.{top, smram_at, wave_entries, handler_entries, procedure_entries, cause_entries, keys_by, keys_read, lists_checked, head_at}
 use Rattle.platform_file.specs.Area.{area_in, area_of, area_at, unless_refused, layout_judged}
 use Rattle.platform_file.specs.Waves.{wave_after, waves_at}
 use Rattle.platform_file.specs.Handlers.{handler_after, handlers_at, procedure_after, procedures_at}
 use Rattle.platform_file.specs.Causes.{cause_after, causes_at}
 use Rattle.platform_file.specs.Walk.{most_events, within_limit, limits_judged, tables_at, setup_at}
-use Rattle.platform_laws.specs.Values.{SaysOr, SaysTables, IsTableOf, IsListOf, HasOnly}
+use Rattle.platform_laws.specs.Values.{SaysTables, IsTableOf, IsListOf, HasOnly}
 use Rattle.platform_laws.specs.Says.{Says, SaysArea, SaysWave, SaysHandlerDef, SaysProcedure, SaysCause, SaysOption, IsNameAt, names_by, top_names}
 use Rattle.platform_laws.specs.Fits.{Fits, names_words, has_port}
-use Rattle.platform_laws.proofs.Readings.{split, joined, same_ok, err_ok, if_ok, ok_if, table_said, table_read, list_value_said, list_value_read, list_said, list_read, others_said, others_read}
-use Rattle.platform_laws.proofs.Lists.{EachFits, each_count}
-use Rattle.platform_laws.proofs.Growth.{each_all, each_distinct, each_one, each_apart, all_true, list_each_said, list_each_read, value_read, AreEntries, entries_said, entries_read}
+use Rattle.platform_laws.proofs.Readings.{split, joined, same_ok, err_ok, if_ok, ok_if, table_said, table_read, list_value_said, list_value_read, list_read, others_said, others_read}
+use Rattle.platform_laws.proofs.Lists.{each_count}
+use Rattle.platform_laws.proofs.Growth.{each_all, each_distinct, each_one, each_apart, all_true, list_each_said, value_read, entries_said, entries_read}
 use Rattle.platform_laws.proofs.Parts.{IsFound}
-use Rattle.platform_laws.proofs.Names.{SayHandlers, found_name, name_found, handler_as, handlers_as}
+use Rattle.platform_laws.proofs.Names.{found_name, name_found, handler_as, handlers_as}
 use Rattle.platform_laws.proofs.Tables.{area_said, area_read, entry_wave_said, entry_wave_read, HandlerFits, entry_handler_said, entry_handler_read, ProcedureFits, entry_procedure_said, entry_procedure_read, CauseFits, entry_cause_said, entry_cause_read}
 use Rattle.platform_laws.proofs.Head.{KeysSay, KeysFit, keys_said, keys_are_read, names_known}
 
 -- the areas
-smram_said : (o : Option Data) (s : Option Area) → read_then (optional (table_of (top key.Smram)) o) area_of ≡ Ok s → MatchOption o (s ≡ None) (SaysOption SaysArea s) × (smram_fits s ≡ true)
+pub smram_said : (o : Option Data) (s : Option Area) → read_then (optional (table_of (top key.Smram)) o) area_of ≡ Ok s → MatchOption o (s ≡ None) (SaysOption SaysArea s) × (smram_fits s ≡ true)
 smram_said None s is = subst (λ x. (x ≡ None) × (smram_fits x ≡ true)) (same_ok None s is) (refl, refl)
 smram_said (Some v) s is =
     let (o, listed, rest) = split (read_then (table_of (top key.Smram) v) (λ found. Ok (Some found))) area_of s is in
@@ -200,7 +199,7 @@ causes_read n visits t cs says fits ports =
     says (leb-true (length cs) 4096 few) (each_apart (cause_fits n visits) has_port same_visit cs [] all_fit ports distinct)
 
 -- the top table's lists and other names
-lists_said : (t : Members) (h k : Head) → lists_checked t h ≡ Ok k → (h ≡ k) × HasOnly (names_by h.policy ++ top_names) t
+pub lists_said : (t : Members) (h k : Head) → lists_checked t h ≡ Ok k → (h ≡ k) × HasOnly (names_by h.policy ++ top_names) t
 lists_said t h k is =
     let (smram, smram_is, rest0) = split (smram_at t) (λ smram. read_then (wave_entries h.visits t) (λ waves. read_then (handler_entries t) (λ handlers. read_then (procedure_entries t) (λ procedures. read_then (cause_entries t) (λ causes. and_no_other Top (keys_by h.policy) t h))))) k is in
     let (waves, waves_is, rest1) = split (wave_entries h.visits t) (λ waves. read_then (handler_entries t) (λ handlers. read_then (procedure_entries t) (λ procedures. read_then (cause_entries t) (λ causes. and_no_other Top (keys_by h.policy) t h)))) k rest0 in

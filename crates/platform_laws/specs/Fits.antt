@@ -1,5 +1,5 @@
 -- The ranges and limits of a platform, over its data alone.
-use Rattle.std.specs.Prelude.{◌≡◌, ℕ, ◌≤◌, ◌==◌, nat_lt, nat_le, Bool, true, IsTrue, List, length, Option, Some, None}
+use Rattle.std.specs.Prelude.{◌≡◌, ℕ, ◌≤◌, ◌==◌, nat_lt, nat_le, Bool, true, IsTrue, length, Option, Some, None}
 use Rattle.std.specs.List.{list_all}
 use Rattle.smm_base.specs.declared.kinds.IoCause.{IoCause}
 use Rattle.cpu_table.specs.Data.{SetupData}

@@ -1,9 +1,8 @@
 -- What a document of TOML says of a platform: which member of which table stands for which part of it.
-use Rattle.std.specs.Prelude.{◌≡◌, ℕ, pos, Bool, false, List, [], ◌∷◌, ◌++◌, Option, Some, None, codes, map, slice_get}
+use Rattle.std.specs.Prelude.{◌≡◌, ℕ, pos, false, List, [], ◌∷◌, ◌++◌, Option, Some, None, codes, map, slice_get}
 use Rattle.std.specs.List.{range_with_len}
-use Rattle.toml.specs.Data.{Data, integer, string, boolean, array, no_items, item, Members}
+use Rattle.toml.specs.Data.{Data, integer, string, boolean, Members}
 use Rattle.smm_base.specs.Status.{status_text}
-use Rattle.smm_base.specs.declared.kinds.HandlerType.{HandlerType}
 use Rattle.smm_base.specs.declared.kinds.IoCause.{IoCause}
 use Rattle.smm_base.specs.declared.kinds.Policy.{Policy}
 use Rattle.smm_base.specs.declared.kinds.Policy.TheVariants.{Elected, Fixed}

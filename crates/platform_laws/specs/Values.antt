@@ -1,5 +1,5 @@
 -- What a table of a document says under a name.
-use Rattle.std.specs.Prelude.{◌≡◌, ◌⊎◌, ℕ, pos, ◌<◌, List, [], ◌∷◌, IsTrue, Option, Some, None, MatchOption, slice_get, map}
+use Rattle.std.specs.Prelude.{◌≡◌, ◌⊎◌, ℕ, pos, ◌<◌, List, [], ◌∷◌, IsTrue, Option, Some, MatchOption}
 use Rattle.std.specs.List.{list_any}
 use Rattle.std.specs.Str.{bytes_eq}
 use Rattle.toml.specs.Data.{Data, integer, string, array, table, Items, no_items, item, Members, no_members, member, get_member}

@@ -154,10 +154,9 @@ fn waves_are(setup: &Setup) -> bool {
     )
 }
 
-// Is the operation at this place of the first handler the one that the file has there?
-fn operation_is(at: usize, operation: &OpDef) -> bool {
+// Those that name a processor.
+fn processor_operation_is(at: usize, operation: &OpDef) -> bool {
     match operation {
-        OpDef::Set { into, value } => at == 0 && *into == 0 && *value == Operand::Number(7),
         OpDef::Read {
             cpu,
             reg,
@@ -196,6 +195,14 @@ fn operation_is(at: usize, operation: &OpDef) -> bool {
                 && *arg == Operand::Number(5)
                 && *into == 4
         }
+        _ => false,
+    }
+}
+
+// Is the operation at this place of the first handler the one that the file has there?
+fn operation_is(at: usize, operation: &OpDef) -> bool {
+    match operation {
+        OpDef::Set { into, value } => at == 0 && *into == 0 && *value == Operand::Number(7),
         OpDef::Check { token } => at == 5 && *token == Operand::Variable(5),
         OpDef::Wait { token, into } => at == 6 && *token == Operand::Variable(6) && *into == 7,
         OpDef::Alloc { size, into } => at == 7 && *size == Operand::Number(65) && *into == 6,
@@ -207,6 +214,7 @@ fn operation_is(at: usize, operation: &OpDef) -> bool {
         } => at == 9 && *handler == 1 && *kind == HandlerType::Root && *into == 2,
         OpDef::Unregister { handle } => at == 10 && *handle == Operand::Variable(4),
         OpDef::Manage { kind } => at == 11 && *kind == GUID,
+        _ => processor_operation_is(at, operation),
     }
 }
 

@@ -1,5 +1,5 @@
 -- The layout of an area that has room for its processors.
-use Rattle.std.specs.Prelude.{◌≡◌, ℕ, ◌+◌, ◌^◌, ◌<◌, ◌≤◌, None}
+use Rattle.std.specs.Prelude.{◌≡◌, ℕ, ◌+◌, ◌^◌, ◌≤◌, None}
 use Rattle.cpu_table.specs.Layout.{layout_refusal}
 use Rattle.cpu_table.specs.declared.setup.Smram.{Smram}
 

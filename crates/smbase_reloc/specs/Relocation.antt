@@ -1,5 +1,5 @@
 -- Relocation: each processor's SMBASE is replaced by that of the layout.
-use Rattle.std.specs.Prelude.{◌≡◌, ℕ, ◌/◌, ◌%◌, ◌^◌, ◌==◌, ◌<◌, Bool, true, false, ◌&&◌, not, if◌then◌else◌, List, map, length, position, slice_get, slice_set, Option, Some, None, option_map, unwrap_or, IsSomeAnd, All}
+use Rattle.std.specs.Prelude.{◌≡◌, ℕ, ◌/◌, ◌%◌, ◌^◌, ◌==◌, ◌<◌, Bool, true, false, ◌&&◌, not, if◌then◌else◌, List, map, position, slice_get, slice_set, Option, Some, None, option_map, unwrap_or, IsSomeAnd, All}
 use Rattle.std.specs.List.{enumerate_from}
 use Rattle.smm_base.specs.declared.kinds.Cause.{Cause}
 use Rattle.save_state_map.specs.declared.field.Field.TheVariants.{Revision, Smbase}

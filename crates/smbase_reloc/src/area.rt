@@ -1,6 +1,5 @@
 ghost use Rattle.std.specs.Prelude.{◌≡◌, ◌-◌, ◌++◌, IfOk, drop, take, length};
 ghost use Rattle.save_state_map.specs.Fields.{image_length};
-ghost use Rattle.save_state_map.specs.Images.{IsImage};
 
 use save_state_map::{Image, image_size};
 use smm_base::{MapKind, NoMemory};

@@ -1,5 +1,5 @@
-ghost use Rattle.std.specs.Prelude.{◌≡◌, ◌+◌, ◌^◌, ◌<◌, ◌≤◌, None};
-ghost use Rattle.cpu_table.specs.Layout.{areas_end, layout_refusal};
+ghost use Rattle.std.specs.Prelude.{◌≡◌, ◌+◌, ◌^◌, ◌<◌, ◌≤◌};
+ghost use Rattle.cpu_table.specs.Layout.{areas_end};
 ghost use Rattle.smbase_reloc.specs.Areas.{smbase_of};
 ghost use Rattle.smbase_reloc.specs.Layouts.{HaveRoom};
 

@@ -1,5 +1,5 @@
 -- Every request leaves a pool well formed.
-use Rattle.std.proofs.Common.{◌≡◌, ℕ, zero, suc, ◌+◌, ◌-◌, ◌*◌, ◌<◌, ◌≤◌, Bool, true, false, cond, eqb, ltb, leb, List, [], ◌∷◌, Option, Some, None, IfSome, length, get_or, refl, sym, ap, subst, ◌∙◌, arith, inl, inr}
+use Rattle.std.proofs.Common.{◌≡◌, ℕ, zero, suc, ◌+◌, ◌-◌, ◌*◌, ◌<◌, Bool, true, false, cond, eqb, ltb, leb, List, [], ◌∷◌, Option, Some, None, IfSome, length, get_or, refl, sym, ap, subst, ◌∙◌, arith, inl, inr}
 use Rattle.std.proofs.lemmas.List.{length-set}
 use Rattle.std.proofs.lemmas.Bool.{cases_Bool, cases_lt, eqb-true, eqb-false}
 use Rattle.smram_pool.specs.State.{PoolState, Taken, block_size, class_for, pages_for, put, found, without, run_taken, block_taken, block_allocated, run_allocated, pages_allocated, allocated, block_freed, run_freed, freed_at, freed_block, freed, freed_run, pages_freed, pages_from, fresh}
@@ -120,9 +120,6 @@ keeps_run_freed place count s e w =
 is_class_by : (b : Bool) (x y : ℕ) → IsClass x → IsClass y → IsClass (cond b x y)
 is_class_by true x y h k = h
 is_class_by false x y h k = k
-
-class_of : (n : ℕ) → 0 < n → n ≤ 6 → IsClass n
-class_of n a b = (a, b)
 
 pub class_for_is : (size : ℕ) → IsClass (class_for size)
 class_for_is size =

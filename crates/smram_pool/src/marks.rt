@@ -1,4 +1,4 @@
-ghost use Rattle.std.specs.Prelude.{◌≡◌, ℕ, ◌≢◌, ◌+◌, ◌*◌, ◌<◌, None, MatchOption, length, slice_index_or, slice_set};
+ghost use Rattle.std.specs.Prelude.{◌≡◌, ℕ, ◌≢◌, ◌+◌, ◌*◌, ◌<◌, None, MatchOption, slice_index_or};
 
 /// The index of the item that stands for this place, where the items of an array stand for places that
 /// are 64 bytes apart.

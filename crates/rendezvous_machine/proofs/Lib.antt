@@ -1,0 +1,10 @@
+pub mod Walks
+pub mod Changes
+pub mod Waves
+pub mod Sets
+pub mod Told
+pub mod Jobs
+pub mod Lists
+pub mod Working
+pub mod Once
+pub mod Lawful

@@ -1,0 +1,9 @@
+pub mod Platforms
+pub mod Machines
+pub mod Listed
+pub mod Services
+pub mod Refusals
+pub mod Rules
+pub mod Effects
+pub mod Runs
+pub mod Histories

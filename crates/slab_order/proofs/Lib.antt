@@ -1,0 +1,3 @@
+pub mod NumberedLemmas
+pub mod OrderLemmas
+pub mod RisingLemmas
