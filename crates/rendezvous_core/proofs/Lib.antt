@@ -1,0 +1,4 @@
+pub mod ReplayLemmas
+pub mod Scheduling
+pub mod StartLemmas
+pub mod ActorLemmas
