@@ -11,3 +11,4 @@ pub mod Examples
 pub mod Lists
 pub mod Turns
 pub mod Dues
+pub mod RowSteps

@@ -1,4 +1,4 @@
-ghost use Rattle.std.specs.Prelude.{◌≡◌, ◌<◌, None, Some, length, option_map, slice_set};
+ghost use Rattle.std.specs.Prelude.{◌≡◌, ◌<◌, None, Some, length, option_copied, option_map, slice_set};
 ghost use Rattle.handler_ops.specs.Course.{desk_of, is_held};
 ghost use Rattle.handler_ops.specs.Told.{with_job};
 
@@ -43,6 +43,13 @@ impl Desks {
             Some(item) => item.is_some(),
             None => false,
         }
+    }
+
+    /// The desk of a processor, if it is held.
+    pub fn get(&self, c: u16) -> Option<&Desk>
+        ensures { option_copied result ≡ desk_of self.now c }
+    {
+        self.desks.get(usize::from(c))?.as_ref()
     }
 
     /// Gives up the desk of a processor, if it is held.

@@ -1,0 +1,7 @@
+mod DeskLemmas
+mod WaveLemmas
+mod KindLemmas
+mod WantLemmas
+mod StayLemmas
+mod HandLemmas
+mod ReturnLemmas
