@@ -2,3 +2,4 @@ pub mod ReplayLemmas
 pub mod Scheduling
 pub mod StartLemmas
 pub mod ActorLemmas
+pub mod PlatformLemmas
