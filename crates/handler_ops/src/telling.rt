@@ -1,4 +1,4 @@
-ghost use Rattle.std.specs.Prelude.{◌≡◌, ◌<◌, ◌≤◌, ◌+◌, ◌-◌, IfSome, MatchOption, None, [], ◌∷◌, position, length, replicate, drop, take, slice_get, slice_index_or, option_copied, option_map, unwrap_or, true, false};
+ghost use Rattle.std.specs.Prelude.{◌≡◌, ◌<◌, ◌≤◌, ◌+◌, ◌-◌, ◌^◌, IfSome, IsSome, MatchOption, None, [], ◌∷◌, position, length, replicate, drop, take, slice_get, slice_index_or, option_copied, option_map, unwrap_or, true, false};
 ghost use Rattle.cpu_table.specs.Ranges.{same_text};
 ghost use Rattle.handler_registry.specs.Registrations.{is_full, is_live};
 ghost use Rattle.save_state_access.specs.Reading.{read_answer};
@@ -34,7 +34,7 @@ fn register_of(reg: u32) -> Register
     Register::numbered(reg).unwrap_or(Register::Rax)
 }
 
-fn read_label(cpu: u16, reg: u32, width: u8, value: u64, status: Status) -> Label
+pub fn read_label(cpu: u16, reg: u32, width: u8, value: u64, status: Status) -> Label
     ensures { result ≡ read_label cpu reg width value status }
 {
     Label::Read {
@@ -46,7 +46,7 @@ fn read_label(cpu: u16, reg: u32, width: u8, value: u64, status: Status) -> Labe
     }
 }
 
-fn write_label(cpu: u16, reg: u32, width: u8, value: u64, status: Status) -> Label
+pub fn write_label(cpu: u16, reg: u32, width: u8, value: u64, status: Status) -> Label
     ensures { result ≡ write_label cpu reg width value status }
 {
     Label::Write {
@@ -128,7 +128,7 @@ fn position_of(procedures: &[ProcedureDef], name: &str) -> Option<usize>
 impl Progress {
     /// The id of a processor, or 0 where the platform hasn't the processor.
     #[tactic(auto, using(crate::proofs::Dues::index_is))]
-    fn id_of(&self, c: u16) -> u64
+    pub fn id_of(&self, c: u16) -> u64
         ensures { result ≡ slice_index_or (setting_in self.now).ids c 0 }
     {
         self.setup.ids.id_of(c).unwrap_or(0)
@@ -450,12 +450,14 @@ fn next_handler(manage: Manage, registry: &Registry) -> Option<u16>
 }
 
 fn kind_at(kinds: &[HandlerType], place: usize) -> Option<HandlerType>
-    ensures { MatchOption result (drop place kinds.now ≡ []) (λ kind. drop place kinds.now ≡ kind ∷ drop (place + 1) kinds.now) }
+    ensures some { IsSome result → place + 1 < 2 ^ 64 }
+    ensures next { MatchOption result (drop place kinds.now ≡ []) (λ kind. drop place kinds.now ≡ kind ∷ drop (place + 1) kinds.now) }
 {
     kinds.get(place).copied()
 }
 
 fn operation_at(ops: &[OpDef], place: usize) -> Option<&OpDef>
+    ensures some { IsSome result → place + 1 < 2 ^ 64 }
     ensures next { MatchOption result (drop place ops.now ≡ []) (λ o. drop place ops.now ≡ o.now ∷ drop (place + 1) ops.now) }
     ensures value { option_copied result ≡ slice_get ops.now place }
 {
@@ -477,35 +479,38 @@ fn walks_of(waves: &[Wave], wave: u32) -> &[HandlerType]
 
 impl Progress {
     /// The walk that was opened last.
-    fn top(&self) -> Option<Walk>
-        ensures { MatchOption result ((place_in self.now).walks ≡ []) (λ w. (place_in self.now).walks ≡ walk_of (program_in self.now) w ∷ walks_in (program_in self.now) (take (length self.now.walks.items - 1) self.now.walks.items)) }
+    pub fn top(&self) -> Option<Walk>
+        ensures some { IsSome result → 0 < length self.now.walks.items }
+        ensures walks { MatchOption result ((place_in self.now).walks ≡ []) (λ w. (place_in self.now).walks ≡ walk_of (program_in self.now) w ∷ walks_in (program_in self.now) (take (length self.now.walks.items - 1) self.now.walks.items)) }
     {
         self.walks.last().copied()
     }
 
     /// How many levels may be opened above the open walks.
     #[tactic(auto, using(crate::proofs::Dues::levels_are))]
-    fn levels(&self) -> usize
-        ensures { result ≡ levels_left (place_in self.now).walks }
+    pub fn levels(&self) -> usize
+        ensures left { result ≡ levels_left (place_in self.now).walks }
+        ensures few { result ≡ 4 - length self.now.walks.items }
     {
         MOST_LEVELS.saturating_sub(self.walks.len())
     }
 
     /// The next walk of the wave.
-    fn next_kind(&self) -> Option<HandlerType>
-        ensures { MatchOption result ((place_in self.now).kinds ≡ []) (λ kind. (place_in self.now).kinds ≡ kind ∷ drop (self.now.entry + 1) (walks_of self.now.setup.waves self.now.wave)) }
+    pub fn next_kind(&self) -> Option<HandlerType>
+        ensures some { IsSome result → self.now.entry + 1 < 2 ^ 64 }
+        ensures kinds { MatchOption result ((place_in self.now).kinds ≡ []) (λ kind. (place_in self.now).kinds ≡ kind ∷ drop (self.now.entry + 1) (walks_of self.now.setup.waves self.now.wave)) }
     {
         kind_at(self.kinds(), self.entry)
     }
 
     /// The walks of the wave that is served.
-    fn kinds(&self) -> &[HandlerType]
+    pub fn kinds(&self) -> &[HandlerType]
         ensures { result.now ≡ walks_of self.now.setup.waves self.now.wave }
     {
         walks_of(self.setup.waves.as_slice(), self.wave)
     }
 
-    fn status_of(&self, place: u16) -> Status
+    pub fn status_of(&self, place: u16) -> Status
         ensures { result ≡ status_of (program_in self.now) place }
     {
         match self.setup.handlers.as_slice().get(usize::from(place)) {
@@ -524,9 +529,11 @@ impl Progress {
     }
 
     /// The next operation of a handler that is being called.
-    fn operation(&self, called: Called) -> Option<&OpDef>
+    pub fn operation(&self, called: Called) -> Option<&OpDef>
+        ensures some { IsSome result → called.at + 1 < 2 ^ 64 }
         ensures next { MatchOption result ((call_of (program_in self.now) called).ops ≡ []) (λ o. (call_of (program_in self.now) called).ops ≡ o.now ∷ drop (called.at + 1) (operations_of (program_in self.now) called.handler)) }
         ensures started { begun_in (program_in self.now) (pending.Started called) ≡ option_map begun.Started (option_copied result) }
+        ensures value { option_copied result ≡ slice_get (operations_of (program_in self.now) called.handler) called.at }
     {
         operation_at(self.operations_of(called.handler), called.at)
     }
