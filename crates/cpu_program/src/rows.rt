@@ -1,9 +1,8 @@
-ghost use Rattle.std.specs.Prelude.{◌≡◌, ◌<◌, length};
+ghost use Rattle.std.specs.Prelude.{◌≡◌, ◌<◌};
 ghost use Rattle.cpu_table.specs.Data.{data_of};
 ghost use Rattle.sync_words.specs.declared.label.Label.TheVariants.{Silent, Off, Collect, Done};
 ghost use Rattle.sync_words.specs.declared.row.Row.TheVariants as row;
 ghost use Rattle.cpu_program.specs.declared.part.Part.TheVariants as gone;
-ghost use Rattle.handler_ops.specs.Answering.{taken_off};
 ghost use Rattle.cpu_program.specs.Bounds.{IsReady, HasImages, IsRow};
 ghost use Rattle.cpu_program.specs.Views.{processor_in};
 ghost use Rattle.cpu_program.specs.Processors.{begin_exit, between, can_run_on, job_label, job_to_run, own_desk, ran_label, taken_at, work_row};
@@ -13,7 +12,7 @@ use crate::hands::can_run;
 use crate::part::Part;
 use crate::processor::Processor;
 use cpu_table::Setup;
-use handler_ops::{Desks, Job};
+use handler_ops::Job;
 use smm_base::Status;
 use sync_words::{DELIVERABLE, Label, Row};
 
@@ -89,7 +88,7 @@ impl Processor {
         ensures label { result ≡ Collect cpu }
         ensures after { processor_in self.new ≡ (taken_at (row.CollectJob cpu) (processor_in self.old) 0).after }
     {
-        take_off(&mut self.held.desks, cpu);
+        let _job = self.held.desks.take_job(cpu);
         self.go_on(self.jobs_row(cpu + 1));
         Label::Collect(cpu)
     }
@@ -159,17 +158,6 @@ fn can_run_on(setup: &Setup, job: &Option<Job>) -> bool
     match job {
         None => false,
         Some(job) => can_run(setup, job),
-    }
-}
-
-// The job of a processor is taken off its desk, if it is held.
-fn take_off(held: &mut Desks, cpu: u16)
-    requires { cpu < length held.old }
-    ensures { held.new ≡ taken_off cpu held.old }
-{
-    if let Some(mut desk) = held.take(cpu) {
-        desk.job = None;
-        held.put(cpu, desk);
     }
 }
 

@@ -53,7 +53,7 @@ register_keeps k Success kind h s = record { seats = refl; units = omega arith }
 register_keeps k _ kind h s = same k s
 
 -- a start has the next number
-NextJob : Label → ℕ → Type 0
+abbrev pub NextJob : Label → ℕ → Type 0
 NextJob (say.Start c j p a) given = j ≡ given + 1
 NextJob _ given = Unit {0}
 
@@ -110,7 +110,7 @@ doing_reaches n kinds ws (op.Manage kind) s l e = walk_reaches 1 n kinds ws kind
 doing_reaches n kinds ws o s l e = operating_reaches kinds ws o s l e
 
 -- where an operation is due a start has the next number
-JobDue : Option OpDef → Label → ℕ → Type 0
+abbrev pub JobDue : Option OpDef → Label → ℕ → Type 0
 JobDue None l given = Unit {0}
 JobDue (Some o) l given = NextJob l given
 

@@ -1,9 +1,9 @@
 -- Each printed form of a GUID is a text of it, and each text of it is, in lower case, a printed form.
-use Rattle.std.proofs.Common.{◌≡◌, ◌⊎◌, inl, inr, ℕ, zero, suc, ◌+◌, ◌-◌, ◌*◌, ◌/◌, ◌%◌, ◌^◌, ◌<◌, Bool, true, false, ◌&&◌, ◌||◌, ◌==◌, nat_lt, All, List, [], ◌∷◌, ◌++◌, length, map, get_or, slice_index, take, drop, Option, Some, None, refl, ap, sym, subst, ◌∙◌, if◌then◌else◌, arith}
+use Rattle.std.proofs.Common.{◌≡◌, ◌⊎◌, inl, inr, ℕ, zero, suc, ◌+◌, ◌*◌, ◌/◌, ◌%◌, ◌^◌, ◌<◌, Bool, true, false, ◌&&◌, ◌||◌, ◌==◌, All, List, [], ◌∷◌, ◌++◌, length, get_or, slice_index, take, drop, Option, Some, None, refl, ap, sym, subst, ◌∙◌, if◌then◌else◌, arith}
 use Rattle.std.specs.Char.{to_ascii_lowercase}
 use Rattle.std.specs.Int.{w128, from_be_bytes, to_be_bytes, bytes_high_first, byte_at}
 use Rattle.std.specs.List.{list_all}
-use Rattle.std.specs.Str.{bytes_eq, str_to_ascii_lowercase}
+use Rattle.std.specs.Str.{str_to_ascii_lowercase}
 use Rattle.std.proofs.lemmas.Bool.{and_parts, eqb-true, false≢true}
 use Rattle.std.proofs.lemmas.Bool.Decides.{nat_tests}
 use Rattle.std.proofs.lemmas.List.{get_or-map, length-map, map-append, take-append-drop}
@@ -13,7 +13,7 @@ use Rattle.std.proofs.lemmas.Slice.Eq.{bytes_eq-Decides}
 use Rattle.uuid.specs.Text.{IsLetter, lower, by_index, hex_digit, nibble, is_hex_digit, value_of, byte_of_digits, hyphen_place, digit_place, is_hyphen_place, digits_of, has_hyphens, has_urn_prefix, urn_prefix, simple_text, hyphenated_text, braced_text, urn_text, parsed, parsed_simple, parsed_hyphenated, parsed_braced, parsed_urn}
 use Rattle.uuid.proofs.OrderLemmas.{from_be_bytes-to_be_bytes_16}
 use Rattle.uuid.proofs.RoundTrips.{parses_simple, parses_hyphenated, parses_braced, parses_urn}
-use Rattle.uuid.proofs.TextLemmas.{by_index_at, by_index_same, by_index_length}
+use Rattle.uuid.proofs.TextLemmas.{by_index_at, by_index_same}
 use Rattle.platform_laws.specs.Words.{IsGuidText, IsGuid}
 
 small_rest : (n : ℕ) → n % 256 < 256

@@ -23,9 +23,10 @@ use Rattle.platform_document.specs.CommonKeys.{cpu_at, register_at, width_at, in
 use Rattle.platform_document.specs.Operands.{operand_by, operand_value, operand_at}
 use Rattle.platform_file.specs.Operations.{handler_named, handler_at, operation_by, operation_keys, operation_as, operation_in}
 use Rattle.platform_laws.specs.Words.{word_text}
+use Rattle.platform_laws.specs.Says.{part_names}
 use Rattle.platform_laws.specs.Values.{SaysText}
 use Rattle.platform_laws.specs.ValueFaults.{KeyFault, IsOutside, WordFault, IsSomeOperand, OperandFault, NameFault}
-use Rattle.platform_laws.specs.Faults.{IsPrinted, IsAnswer, IsVariable, IsSomeKind, IsSomeStart, CpuFault, RegisterFault, WidthFault, IntoFault, TypeFault, OperandKeyFault, HandlerKeyFault, PartsFault, part_names, OperationFault}
+use Rattle.platform_laws.specs.Faults.{IsPrinted, IsAnswer, IsVariable, IsSomeKind, IsSomeStart, CpuFault, RegisterFault, WidthFault, IntoFault, TypeFault, OperandKeyFault, HandlerKeyFault, PartsFault, OperationFault}
 use Rattle.platform_laws.proofs.Readings.{err_ok, integer_is, string_is}
 use Rattle.platform_laws.proofs.Words.{register_said, register_read, variable_said, variable_read, kind_said, kind_read, start_list_said, start_list_read, answer_said, answer_read, operation_word_said, operation_word_read}
 use Rattle.platform_laws.proofs.Operands as operands

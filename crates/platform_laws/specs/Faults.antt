@@ -23,7 +23,7 @@ use Rattle.platform_document.specs.declared.word.OperationWord.{OperationWord}
 use Rattle.platform_document.specs.declared.word.OperationWord.TheVariants as word
 use Rattle.platform_laws.specs.Words.{map_text, policy_text, mode_text, arrival_text, act_text, variable_text, word_text, IsKind, IsStartList}
 use Rattle.platform_laws.specs.Values.{SaysNumber, SaysText, SaysList, IsTableOf}
-use Rattle.platform_laws.specs.Says.{SaysArea, names_by, top_names}
+use Rattle.platform_laws.specs.Says.{SaysArea, part_names, names_by, top_names}
 use Rattle.platform_laws.specs.ValueFaults.{KeyFault, OptionFault, NumberFault, ChoiceFault, WordFault, TextFault, FlagFault, OperandFault, TableFault, ListFault, TablesFault, NameFault, IsAmong}
 
 -- a text is one that is printed for some value
@@ -182,21 +182,6 @@ PartsFault IsName at word.Free t f = OperandKeyFault at key.Place t f
 PartsFault IsName at word.Register t f = HandlerKeyFault IsName at t f ⊎ TypeFault at t f ⊎ IntoFault at t f
 PartsFault IsName at word.Unregister t f = OperandKeyFault at key.Handle t f
 PartsFault IsName at word.Manage t f = TypeFault at t f
-
--- the names of the parts of an operation with this word
-abbrev pub part_names : OperationWord → List (List ℕ)
-part_names word.Set = codes "into" ∷ codes "value" ∷ []
-part_names word.Read = codes "cpu" ∷ codes "reg" ∷ codes "width" ∷ codes "into" ∷ []
-part_names word.Write = codes "cpu" ∷ codes "reg" ∷ codes "width" ∷ codes "value" ∷ []
-part_names word.Start = codes "cpu" ∷ codes "procedure" ∷ codes "arg" ∷ codes "into" ∷ []
-part_names word.Launch = codes "cpu" ∷ codes "procedure" ∷ codes "arg" ∷ codes "into" ∷ []
-part_names word.Check = codes "token" ∷ []
-part_names word.Wait = codes "token" ∷ codes "into" ∷ []
-part_names word.Alloc = codes "size" ∷ codes "into" ∷ []
-part_names word.Free = codes "place" ∷ []
-part_names word.Register = codes "handler" ∷ codes "type" ∷ codes "into" ∷ []
-part_names word.Unregister = codes "handle" ∷ []
-part_names word.Manage = codes "type" ∷ []
 
 -- an operation: its word, or its parts and names, given the word
 abbrev pub OperationFault : (List ℕ → Type 0) → TablePlace → Members → WalkFault → Type 0

@@ -49,22 +49,7 @@ abbrev pub act_text : Act → List ℕ
 act_text Get = codes "get"
 act_text Put = codes "put"
 
--- what an operation of a handler does
-abbrev pub operation_text : OpDef → List ℕ
-operation_text (op.Set into value) = codes "set"
-operation_text (op.Read cpu reg width into) = codes "read"
-operation_text (op.Write cpu reg width value) = codes "write"
-operation_text (op.Start cpu procedure arg into) = codes "start"
-operation_text (op.Launch cpu procedure arg into) = codes "launch"
-operation_text (op.Check token) = codes "check"
-operation_text (op.Wait token into) = codes "wait"
-operation_text (op.Alloc size into) = codes "alloc"
-operation_text (op.Free place) = codes "free"
-operation_text (op.Register handler kind into) = codes "register"
-operation_text (op.Unregister handle) = codes "unregister"
-operation_text (op.Manage kind) = codes "manage"
-
--- the word of an operation
+-- how the word of an operation is written
 abbrev pub word_text : OperationWord → List ℕ
 word_text word.Set = codes "set"
 word_text word.Read = codes "read"
@@ -78,6 +63,25 @@ word_text word.Free = codes "free"
 word_text word.Register = codes "register"
 word_text word.Unregister = codes "unregister"
 word_text word.Manage = codes "manage"
+
+-- the word of an operation
+abbrev pub word_of : OpDef → OperationWord
+word_of (op.Set into value) = word.Set
+word_of (op.Read cpu reg width into) = word.Read
+word_of (op.Write cpu reg width value) = word.Write
+word_of (op.Start cpu procedure arg into) = word.Start
+word_of (op.Launch cpu procedure arg into) = word.Launch
+word_of (op.Check token) = word.Check
+word_of (op.Wait token into) = word.Wait
+word_of (op.Alloc size into) = word.Alloc
+word_of (op.Free place) = word.Free
+word_of (op.Register handler kind into) = word.Register
+word_of (op.Unregister handle) = word.Unregister
+word_of (op.Manage kind) = word.Manage
+
+-- how an operation's word is written
+abbrev pub operation_text : OpDef → List ℕ
+operation_text operation = word_text (word_of operation)
 
 -- a variable is the letter v and one decimal digit
 abbrev pub variable_text : ℕ → List ℕ

@@ -1,7 +1,7 @@
 -- What a world keeps.
 use Rattle.std.specs.Prelude.{ℕ, ◌≡◌, ◌+◌, ◌<◌, ◌≤◌, List, length, slice_get, vec_capacity, IsSome, IsSomeAnd}
 use Rattle.cpu_program.specs.Actors.{Actor}
-use Rattle.cpu_program.specs.Programs.{last_of}
+use Rattle.cpu_program.specs.Programs.{last_of, number_of}
 use Rattle.rendezvous_core.specs.Turns.{world_in}
 use Rattle.rendezvous_core.specs.Worlds.{Replay}
 use Rattle.rendezvous_core.specs.declared.world.World.TheInside.{Inside}
@@ -19,10 +19,14 @@ replay_of w =
 abbrev pub HasImage : Actor → Type 0
 HasImage a = IsSome (last_of a)
 
--- an actor for each processor, which has an image, and one more
+abbrev pub HasNumber : ℕ → Actor → Type 0
+HasNumber i a = number_of a ≡ i
+
+-- the processors by number, each of which has an image, and then the chipset
 pub record AreActors (n : ℕ) (actors : List Actor) : Type 0 where
   pub count : length actors ≡ n + 1
-  pub each : (i : ℕ) → i < n → IsSomeAnd (slice_get actors i) HasImage
+  pub numbers : (i : ℕ) → i ≤ n → IsSomeAnd (slice_get actors i) (HasNumber i)
+  pub images : (i : ℕ) → i < n → IsSomeAnd (slice_get actors i) HasImage
 
 -- there is memory for the events
 pub record IsWorld (w : Inside) : Type 0 where

@@ -1,17 +1,18 @@
-ghost use Rattle.std.specs.Prelude.{◌≡◌, ◌≤◌, ◌<◌, length};
+ghost use Rattle.std.specs.Prelude.{◌≡◌, ◌≤◌, ◌<◌, length, slice_get, IsSomeAnd};
 ghost use Rattle.cpu_program.specs.Programs.{want_of, taken, gift_of, number_of};
-ghost use Rattle.sync_words.specs.Steps.{Accepts, IsAccepted, found_of};
+ghost use Rattle.sync_words.specs.Steps.{IsAccepted, found_of};
 ghost use Rattle.sync_words.specs.declared.access.Applied.TheVariants as applied;
 ghost use Rattle.sync_words.specs.declared.event.Want.TheVariants as want;
 ghost use Rattle.rendezvous_core.specs.declared.stepped.Stepped.TheVariants as stepped;
 ghost use Rattle.rendezvous_core.specs.Worlds.{event_of, gives, takes, changes, lying_on, turn, step};
+ghost use Rattle.rendezvous_core.specs.WorldInside.{HasNumber};
 ghost use Rattle.rendezvous_core.specs.Turns.{stepped_by, words_by, lying_by, actor_by, world_in};
 
 use crate::lying::Lying;
 use crate::stepped::Stepped;
 use crate::words::Words;
 use cpu_program::Program;
-use sync_words::{Access, Applied, Event, Hand, LOCKED, Want, WordId, apply};
+use sync_words::{Access, Applied, Hand, LOCKED, Want, WordId, apply};
 
 // An access of an actor.
 #[derive(Clone, Copy)]
@@ -24,21 +25,17 @@ struct Attempt {
 
 // The event of an attempt that was accepted, of which the program is told.
 fn tell(attempt: Attempt, applied: Applied, program: &mut Program) -> Stepped
-    requires { Accepts (want_of program.old) applied }
+    requires number { number_of program.old ≡ attempt.me }
+    requires wanted { want_of program.old ≡ want.Access attempt.word attempt.access attempt.hand }
+    requires accepted { IsAccepted attempt.access applied }
     ensures event { result ≡ stepped.Event (event_of attempt.me attempt.word attempt.access (found_of applied) (taken program.old (found_of applied)).label) }
     ensures after { program.new ≡ (taken program.old (found_of applied)).after }
 {
-    let event = program.take(applied);
-    Stepped::Event(Event {
-        actor: attempt.me,
-        word: attempt.word,
-        access: attempt.access,
-        found: applied.found(),
-        label: event.label,
-    })
+    Stepped::Event(program.take(applied))
 }
 
 // The word changes, and the program lays a thing on it. Without that thing it waits.
+#[tactic(auto, using(crate::proofs::NumberLemmas::given_number))]
 fn give(
     attempt: Attempt,
     new: u32,
@@ -47,6 +44,7 @@ fn give(
     lying: &mut Lying,
     program: &mut Program,
 ) -> Stepped
+    requires number { number_of program.old ≡ attempt.me }
     requires wanted { want_of program.old ≡ want.Access attempt.word attempt.access attempt.hand }
     requires accepted { IsAccepted attempt.access (applied.Changed new found) }
     requires fits { new ≤ LOCKED }
@@ -65,6 +63,7 @@ fn give(
 }
 
 // The word changes, and the program takes what lies on it. Where nothing lies it waits.
+#[tactic(auto, using(crate::proofs::NumberLemmas::received_number))]
 fn take(
     attempt: Attempt,
     new: u32,
@@ -73,6 +72,7 @@ fn take(
     lying: &mut Lying,
     program: &mut Program,
 ) -> Stepped
+    requires number { number_of program.old ≡ attempt.me }
     requires wanted { want_of program.old ≡ want.Access attempt.word attempt.access attempt.hand }
     requires accepted { IsAccepted attempt.access (applied.Changed new found) }
     requires fits { new ≤ LOCKED }
@@ -100,6 +100,7 @@ fn change(
     lying: &mut Lying,
     program: &mut Program,
 ) -> Stepped
+    requires number { number_of program.old ≡ attempt.me }
     requires wanted { want_of program.old ≡ want.Access attempt.word attempt.access attempt.hand }
     requires accepted { IsAccepted attempt.access (applied.Changed new found) }
     requires fits { new ≤ LOCKED }
@@ -120,6 +121,7 @@ fn change(
 
 /// The turn of the actor `me`. Where its access isn't ready, or it is off, nothing changes.
 pub fn take_turn(words: &mut Words, lying: &mut Lying, me: u16, program: &mut Program) -> Stepped
+    requires { number_of program.old ≡ me }
     ensures stepped { result ≡ stepped_by (turn words.old lying.old me program.old) }
     ensures words { words.new ≡ words_by (turn words.old lying.old me program.old) words.old }
     ensures lying { lying.new ≡ lying_by (turn words.old lying.old me program.old) lying.old }
@@ -143,7 +145,8 @@ pub fn take_turn(words: &mut Words, lying: &mut Lying, me: u16, program: &mut Pr
 
 /// One step of the actor `me` of these actors.
 pub fn step_of(words: &mut Words, lying: &mut Lying, programs: &mut [Program], me: u16) -> Stepped
-    requires { me < length programs.old }
+    requires me_in { me < length programs.old }
+    requires number { IsSomeAnd (slice_get programs.old me) (HasNumber me) }
     ensures stepped { result ≡ (step (world_in words.old lying.old programs.old) me).0 }
     ensures world { world_in words.new lying.new programs.new ≡ (step (world_in words.old lying.old programs.old) me).1 }
 {

@@ -19,8 +19,5 @@ serve_on-requires c =
           ∙ subst (λ (o : Option Session). IfSome o (HasProcessors c.args.self.now.setup.processors)) c.in-Some.is c.requires.ready.chair;
     }
 
-pub answer-label-requires-clause-stand_in : goal.answer-label-requires-clause-stand_in
-answer-label-requires-clause-stand_in c = ?
-
 pub answer-label-requires-clause-at_hand : goal.answer-label-requires-clause-at_hand
 answer-label-requires-clause-at_hand c = serving_at_hand c.args.self.now.setup.processors c.args.self.now.chair c.in-Some.server c.args.self.now.held.desks c.in-Some.is c.requires.told
