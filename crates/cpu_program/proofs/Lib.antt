@@ -5,3 +5,4 @@ mod WantLemmas
 mod StayLemmas
 mod HandLemmas
 mod ReturnLemmas
+pub mod PlatformLemmas

@@ -6,3 +6,4 @@ pub mod Programs
 pub mod Bounds
 pub mod Views
 pub mod Laws
+pub mod Platforms

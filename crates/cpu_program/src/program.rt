@@ -3,6 +3,7 @@ ghost use Rattle.cpu_table.specs.Data.{data_of};
 ghost use Rattle.sync_words.specs.Steps.{Accepts, IsWantWithin, found_of, hand_of};
 ghost use Rattle.sync_words.specs.declared.event.Want.TheVariants as want;
 ghost use Rattle.cpu_program.specs.Bounds.{IsActor};
+ghost use Rattle.cpu_program.specs.Platforms.{FitsPlatform};
 ghost use Rattle.cpu_program.specs.Programs.{first_actor, gift_of, given, is_off, is_processor, last_of, number_of, processors_of, received, taken, want_of, IsAccess, IsWanted};
 
 use crate::cargo::Cargo;
@@ -121,7 +122,9 @@ impl Program {
 
     /// The image of the last resume, or the first image of a processor that never resumed; none for the chipset.
     pub fn last(&self) -> Option<&Image>
-        ensures { option_copied result ≡ last_of self.now }
+        ensures image { option_copied result ≡ last_of self.now }
+        // It is of the platform's kind.
+        ensures fits { FitsPlatform self.now }
     {
         match &self.state {
             State::Processor(processor) => Some(&processor.last),

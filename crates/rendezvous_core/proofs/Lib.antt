@@ -3,3 +3,4 @@ pub mod Scheduling
 pub mod StartLemmas
 pub mod NumberLemmas
 pub mod ActorLemmas
+pub mod PlatformLemmas

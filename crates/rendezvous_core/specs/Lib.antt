@@ -8,3 +8,4 @@ pub mod LyingInside
 pub mod StartsInside
 pub mod Turns
 pub mod WorldInside
+pub mod Platforms

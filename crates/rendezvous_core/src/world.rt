@@ -1,5 +1,6 @@
 ghost use Rattle.std.specs.Prelude.{◌≡◌, ◌<◌, ◌≤◌, ◌++◌, [], length, IfOk, IfErr, OnOk, None, Some};
 ghost use Rattle.cpu_table.specs.Data.{data_of};
+ghost use Rattle.rendezvous_core.specs.Platforms.{HasFittingImage};
 ghost use Rattle.rendezvous_core.specs.Starts.{AreImagesOf, first_registers, start_refusal, IsRefusedBy};
 ghost use Rattle.rendezvous_core.specs.Worlds.{start, step, with_event, is_off, is_complete, last_image, MakesNoEvent};
 
@@ -127,7 +128,9 @@ impl World {
     /// The image that processor `i` last resumed from, or its first.
     pub fn after(&self, i: u16) -> &Image
         requires { i < self.now.processors }
-        ensures { last_image self.now.world i ≡ Some result.now }
+        ensures image { last_image self.now.world i ≡ Some result.now }
+        // It is of the kind of the processor's platform.
+        ensures fits { HasFittingImage self.now.world i }
     {
         match self.programs[usize::from(i)].last() {
             Some(image) => image,

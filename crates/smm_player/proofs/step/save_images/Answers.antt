@@ -1,5 +1,5 @@
 use Rattle.smm_base.specs.Calls.{stays, one_call}
-use Rattle.smm_player.proofs.step.save_image.Goals as goal
+use Rattle.smm_player.proofs.step.save_images.Goals as goal
 
 pub returns-in-Err-clause-moved : goal.returns-in-Err-clause-moved
 returns-in-Err-clause-moved g c = stays
