@@ -8,7 +8,6 @@ use Rattle.sync_words.specs.declared.word.WordId.{WordId}
 use Rattle.sync_words.specs.declared.access.Access.{Access}
 use Rattle.sync_words.specs.declared.access.Applied.{Applied}
 use Rattle.sync_words.specs.declared.access.Applied.TheVariants.{Changed, Same, NotReady}
-use Rattle.sync_words.specs.declared.event.Event.{Event}
 use Rattle.sync_words.specs.declared.event.Hand.{Hand}
 use Rattle.sync_words.specs.declared.event.Hand.TheVariants.{Nothing, Give, Take}
 use Rattle.sync_words.specs.declared.event.Want.{Want}
@@ -17,10 +16,10 @@ use Rattle.sync_words.specs.Access.{applied}
 use Rattle.cpu_program.specs.declared.cargo.Cargo.{Cargo}
 use Rattle.cpu_program.specs.Actors.{Actor, OfProcessor, OfChipset}
 use Rattle.cpu_program.specs.Platforms.{IsProcessorOf, FitsPlatform}
-use Rattle.cpu_program.specs.Programs.{want_of, taken, gift_of, given, received}
+use Rattle.cpu_program.specs.Programs.{want_of, gift_of, given, received}
 use Rattle.cpu_program.proofs.PlatformLemmas.{taken_of, given_of, received_of}
 use Rattle.rendezvous_core.specs.Platforms.{HasProcessorOf, HasFittingImage}
-use Rattle.rendezvous_core.specs.Worlds.{Words, Lying, World, Turn, Moves, Waits, Rests, lying_on, read, gives, takes, changes, accesses, turn_wanting, turn, turned, step_of, step, first_actors, start, replay_world, last_in, last_image}
+use Rattle.rendezvous_core.specs.Worlds.{Words, Lying, World, Turn, Moves, Waits, Rests, lying_on, read, gives, takes, changes, accesses, turn_wanting, turn, turned, step_of, first_actors, start, replay_world, last_in, last_image}
 use Rattle.rendezvous_core.proofs.Scheduling.{after_schedule}
 
 -- a turn leaves its actor on the platform

@@ -1,6 +1,7 @@
 -- The refusal of a relocation, processor by processor, and the registers of a start.
-use Rattle.std.proofs.Common.{◌≡◌, ℕ, zero, suc, ◌+◌, ◌<◌, Bool, true, false, cond, List, [], ◌∷◌, Option, Some, None, length, map, drop, get_or, refl, ap, sym, subst, ◌∙◌, add-one}
+use Rattle.std.proofs.Common.{◌≡◌, ℕ, zero, suc, ◌+◌, ◌<◌, ◌≤◌, Bool, true, false, cond, List, [], ◌∷◌, ◌++◌, Option, Some, None, length, map, drop, get_or, refl, ap, sym, subst, ◌∙◌, add-one, append_assoc}
 use Rattle.std.proofs.Math.Seq.{drop-cons}
+use Rattle.std.proofs.lemmas.List.{drop_all}
 use Rattle.std.proofs.lemmas.List.Elements.{All-head, All-tail, All-cons, All-nil}
 use Rattle.std.proofs.lemmas.Iterator.Adapters.{position_from-zero}
 use Rattle.std.specs.Prelude.{All, slice_get, option_map}
@@ -12,8 +13,11 @@ use Rattle.cpu_table.specs.declared.setup.Smram.{Smram}
 use Rattle.smbase_reloc.specs.Areas.{smbase_of}
 use Rattle.smbase_reloc.specs.Relocation.{is_fixed, refusal_of, refusal_at, relocation_refusal, with_smbase, relocated}
 use Rattle.smbase_reloc.specs.declared.error.RelocError.{RelocError}
+use Rattle.cpu_program.specs.Actors.{Actor, OfChipset}
+use Rattle.cpu_program.specs.Programs.{first_chipset}
 use Rattle.rendezvous_core.specs.Starts.{AreImagesOf, placed_in, first_registers}
 use Rattle.rendezvous_core.specs.StartsInside.{refusal_one, or_else, refusal_from, AreRegistersOf}
+use Rattle.rendezvous_core.specs.Worlds.{first_actor, first_actors}
 
 get_of_drop : (all rest : List Registers) (k : ℕ) (x : Registers) → drop k all ≡ x ∷ rest → slice_get all k ≡ Some x
 get_of_drop [] rest zero x h = cc
@@ -91,3 +95,26 @@ pub first_are : (d : SetupData) (images : List ImageContents) (rs : List Registe
 first_are d images rs h e =
     subst (λ (xs : List Registers). AreRegistersOf d xs) (sym e)
     (record { count = placed_length d.smram 0 images ∙ h.count; kind = placed_kinds d 0 images h.kind })
+
+next_of : {A : Type 0} (xs : List A) (i : ℕ) (d : A) → i < length xs → drop i xs ≡ get_or xs i d ∷ drop (i + 1) xs
+next_of xs i d within = drop-cons xs i d within ∙ ap (λ n. get_or xs i d ∷ drop n xs) (sym (add-one i))
+
+-- one program more of a start
+pub one_program_more : (d : SetupData) (programs programs' : List Actor) (i : ℕ) (rs : List Registers) (images : List ImageContents) (r r' : Registers) (image image' : ImageContents)
+    → i < length rs → i < length images → r ≡ get_or rs i r' → image ≡ get_or images i image' → programs' ≡ programs ++ first_actor d i r image ∷ []
+    → programs' ++ first_actors d (i + 1) (drop (i + 1) rs) (drop (i + 1) images) ≡ programs ++ first_actors d i (drop i rs) (drop i images)
+one_program_more d programs programs' i rs images r r' image image' within within' r_is image_is is =
+    let left = drop (i + 1) rs in
+    let left' = drop (i + 1) images in
+    let rest = first_actors d (i + 1) left left' in
+    let some : r ∷ left ≡ drop i rs = ap (λ x. x ∷ left) r_is ∙ sym (next_of rs i r' within) in
+    let some' : image ∷ left' ≡ drop i images = ap (λ x. x ∷ left') image_is ∙ sym (next_of images i image' within') in
+    ap (λ ps. ps ++ rest) is
+    ∙ append_assoc programs (first_actor d i r image ∷ []) rest
+    ∙ ap (λ xs. programs ++ first_actors d i xs (image ∷ left')) some
+    ∙ ap (λ xs. programs ++ first_actors d i (drop i rs) xs) some'
+
+-- and the chipset last
+pub last_program : (d : SetupData) (programs programs' : List Actor) (i : ℕ) (rs : List Registers) (images : List ImageContents) → length rs ≤ i
+    → programs' ≡ programs ++ OfChipset (first_chipset d) ∷ [] → programs' ≡ programs ++ first_actors d i (drop i rs) (drop i images)
+last_program d programs programs' i rs images past is = is ∙ sym (ap (λ xs. programs ++ first_actors d i xs (drop i images)) (drop_all i rs past))
