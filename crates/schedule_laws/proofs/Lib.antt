@@ -1,0 +1,13 @@
+pub mod Scenes
+pub mod Stations
+pub mod Leads
+pub mod Sums
+pub mod Invariant
+pub mod Frames
+pub mod OwnFrames
+pub mod Heralds
+pub mod Schedules
+pub mod VisitMoves
+pub mod ReportMoves
+pub mod LeadFrames
+pub mod ClosedStages
