@@ -11,7 +11,7 @@ use Rattle.cpu_program.specs.Processors.{is_relaxed}
 use Rattle.rendezvous_core.specs.Worlds.{World, Words, Lying}
 use Rattle.rendezvous_machine.specs.Machines.{Machine, Member, Session, member, nobody}
 use Rattle.rendezvous_machine.specs.Effects.{with_member}
-use Rattle.schedule_laws.proofs.Scenes.{Scene, Seat, Position, seat, no_seat, processor_of, actors_of, world_of, seat_set_from}
+use Rattle.schedule_laws.proofs.Scenes.{Scene, Seat, Position, seat, no_seat, processor_of, actors_of, world_of, seat_put}
 use Rattle.schedule_laws.proofs.Stations.{Station, station_of, bit, work_of, is_bsp, member_of, made, made-le, member_of-le}
 use Rattle.schedule_laws.proofs.Sums.{sum_below-change, sum_below-bound}
 use Rattle.schedule_laws.proofs.Invariant.{Context, View, IsCpu, IsTotals, IsWords, IsChipset, IsCourse, IsJobOf, IsSized, sizes, IsReady, Holds, IsFine, IsAt, IsRunOf, IsIdle, IsSignal, IsBusy, globe, mode_of, view, view_at, view_of, seat_view, locked, members_in, team_in, raised_in}
@@ -30,7 +30,7 @@ seated d c s words lying m i t l h =
     record {
       context = c;
       scene = record s { words = words; lying = lying; seats = slice_set s.seats i t };
-      world_is = ap (λ (xs : List Actor). record { words = words; lying = lying; actors = xs }) (sym (seat_set_from d 0 s.seats s.watch i t l));
+      world_is = ap (λ (xs : List Actor). record { words = words; lying = lying; actors = xs }) (sym (seat_put d s i t l));
       holds = h;
     }
 

@@ -409,7 +409,7 @@ pub record IsWords (d : SetupData) (c : Context) (g : Globe) : Type 0 where
   pub inside : 2 ≤ c.stage → c.stage ≤ 14 → g.inside ≡ 1
   pub inside_after : 15 ≤ c.stage → g.inside ≡ 0
   pub insync_before : c.stage ≤ 8 → g.insync ≡ 0
-  pub insync : 9 ≤ c.stage → c.stage ≤ 20 → serves_from (mode_of d) ≢ c.stage → g.insync ≡ 1
+  pub insync : 9 ≤ c.stage → c.stage ≤ 20 → g.insync ≡ 1
   pub insync_after : 21 ≤ c.stage → g.insync ≡ 0
   pub chair_before : c.stage ≡ 0 → g.on_bsp ≡ chair_lying d.policy c.chair
   pub chair : 1 ≤ c.stage → c.stage ≤ 19 → g.on_bsp ≡ None
@@ -468,9 +468,9 @@ pub record IsAim (d : SetupData) (c : Context) : Type 0 where
   pub closes_on : c.stage ≡ 11 → (j : ℕ) → j < d.processors → c.next ≤ j → get_or c.listed j false ≡ is_some (get_or c.held j None)
 
 -- the desks that the BSP holds; at the handlers one of them may have its job already
-abbrev pub held_at : Lead → Context → List (Option Desk)
-held_at AtHandlers c = handed_as c.chair.told c.held
-held_at _ c = c.held
+abbrev pub held_at : Lead → Chair → List (Option Desk) → List (Option Desk)
+held_at AtHandlers chair held = handed_as chair.told held
+held_at _ chair held = held
 
 -- The seat of a BSP at this position is what is told of the session.
 pub record IsLead (d : SetupData) (c : Context) (registrations : Registrations) (pool : PoolState) (lead : Lead) (t : Seat) : Type 0 where
@@ -480,7 +480,7 @@ pub record IsLead (d : SetupData) (c : Context) (registrations : Registrations) 
   pub wave : t.wave ≡ c.wave
   pub blocked : t.blocked ≡ c.blocked
   pub listed : t.listed ≡ c.listed
-  pub held : t.held ≡ held_at lead c
+  pub held : t.held ≡ held_at lead c.chair c.held
   pub chair : c.stage ≤ 19 → t.chair ≡ Some c.chair
   pub no_chair : 20 ≤ c.stage → t.chair ≡ chair_home d.policy c.bsp c.chair
   pub begins : part_of lead ≡ 1 → IsBeginning d c registrations pool

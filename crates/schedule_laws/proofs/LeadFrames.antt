@@ -88,7 +88,7 @@ pub record IsHolding (c : Context) (lead : Lead) (t : Seat) : Type 0 where
   pub wave : t.wave ≡ c.wave
   pub blocked : t.blocked ≡ c.blocked
   pub listed : t.listed ≡ c.listed
-  pub held : t.held ≡ held_at lead c
+  pub held : t.held ≡ held_at lead c.chair c.held
   pub chair : t.chair ≡ Some c.chair
 
 pub reaches : (d : SetupData) (c : Context) (s : Scene) (m : Machine) (t t' : Seat) (lead : Lead) → (r : Reached d c s m lead) → seat s c.bsp ≡ t
@@ -117,7 +117,7 @@ the_bsp d c i s m t lead f l e q =
     (λ (z : i ≢ c.bsp). let x = (own.peer z).station in absurd (omega arith))
     (cases_eq i c.bsp)
 
-lead_of : Position → Lead
+abbrev lead_of : Position → Lead
 lead_of (LeadingAt lead) = lead
 lead_of _ = MarkingInside
 

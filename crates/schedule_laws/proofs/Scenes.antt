@@ -233,7 +233,7 @@ world_of d s = record { words = s.words; lying = s.lying; actors = actors_of d s
 
 -- THE LIST OF ACTORS
 
-pub seat_from : (d : SetupData) (me : ℕ) (ss : List Seat) (x : Watch) (i : ℕ) → i < length ss → slice_get (actors_from d me ss x) i ≡ Some (processor_of d (me + i) (get_or ss i no_seat))
+seat_from : (d : SetupData) (me : ℕ) (ss : List Seat) (x : Watch) (i : ℕ) → i < length ss → slice_get (actors_from d me ss x) i ≡ Some (processor_of d (me + i) (get_or ss i no_seat))
 seat_from d me [] x i l = absurd (omega arith)
 seat_from d me (s ∷ ss) x zero l = let e : me ≡ me + 0 = omega arith in ap (λ (k : ℕ). Some (processor_of d k s)) e
 seat_from d me (s ∷ ss) x (suc i) l =
@@ -250,7 +250,7 @@ beyond_from d me [] x (suc i) l = refl
 beyond_from d me (s ∷ ss) x zero l = absurd (omega arith)
 beyond_from d me (s ∷ ss) x (suc i) l = beyond_from d (me + 1) ss x i (omega arith)
 
-pub seat_set_from : (d : SetupData) (me : ℕ) (ss : List Seat) (x : Watch) (i : ℕ) (t : Seat) → i < length ss
+seat_set_from : (d : SetupData) (me : ℕ) (ss : List Seat) (x : Watch) (i : ℕ) (t : Seat) → i < length ss
     → slice_set (actors_from d me ss x) i (processor_of d (me + i) t) ≡ actors_from d me (slice_set ss i t) x
 seat_set_from d me [] x i t l = absurd (omega arith)
 seat_set_from d me (s ∷ ss) x zero t l =
@@ -263,3 +263,13 @@ seat_set_from d me (s ∷ ss) x (suc i) t l =
 pub watch_set_from : (d : SetupData) (me : ℕ) (ss : List Seat) (x y : Watch) → slice_set (actors_from d me ss x) (length ss) (chipset_of d y) ≡ actors_from d me ss y
 watch_set_from d me [] x y = refl
 watch_set_from d me (s ∷ ss) x y = ap (λ (xs : List Actor). processor_of d me s ∷ xs) (watch_set_from d (me + 1) ss x y)
+
+-- in a scene
+
+pub seat_get : (d : SetupData) (s : Scene) (i : ℕ) → i < length s.seats → slice_get (actors_of d s) i ≡ Some (processor_of d i (seat s i))
+seat_get d s i l = let e : 0 + i ≡ i = omega arith in seat_from d 0 s.seats s.watch i l ∙ ap (λ (k : ℕ). Some (processor_of d k (seat s i))) e
+
+pub seat_put : (d : SetupData) (s : Scene) (i : ℕ) (t : Seat) → i < length s.seats
+    → slice_set (actors_of d s) i (processor_of d i t) ≡ actors_from d 0 (slice_set s.seats i t) s.watch
+seat_put d s i t l =
+    let e : i ≡ 0 + i = omega arith in ap (λ (k : ℕ). slice_set (actors_of d s) i (processor_of d k t)) e ∙ seat_set_from d 0 s.seats s.watch i t l

@@ -19,7 +19,7 @@ use Rattle.rendezvous_machine.specs.Machines.{Machine, Member, member, nobody, f
 use Rattle.rendezvous_machine.specs.Effects.{opened}
 use Rattle.rendezvous_machine.specs.Runs.{IsRun, machine_after}
 use Rattle.rendezvous_laws.proofs.Simulations.{EachStepKeeps, ran_from}
-use Rattle.schedule_laws.proofs.Scenes.{Scene, Seat, AwaitingSmi, Watch, AnnouncingBlocked, seat, no_seat, processor_of, chipset_of, actors_from, actors_of, world_of, seat_from, watch_from, beyond_from}
+use Rattle.schedule_laws.proofs.Scenes.{Scene, Seat, AwaitingSmi, Watch, AnnouncingBlocked, seat, no_seat, processor_of, chipset_of, actors_from, actors_of, world_of, seat_get, watch_from, beyond_from}
 use Rattle.schedule_laws.proofs.Stations.{member_of}
 use Rattle.schedule_laws.proofs.Stations as stations
 use Rattle.schedule_laws.proofs.Sums.{sum_below-zero}
@@ -38,7 +38,7 @@ module _ (d : SetupData) (turns : AllTurnsKept d) where
   seat_steps : (c : Context) (s : Scene) (m : Machine) (i : ℕ) → Holds d c s m → i < d.processors → Kept d m i (step (world_of d s) i)
   seat_steps c s m i f l =
       let inside : i < length s.seats = rw (f.ready.sized.seats) l in
-      subst (λ (o : Option Actor). Kept d m i (step_of (world_of d s) i o)) (sym (seat_from d 0 s.seats s.watch i inside)) (turns c s m i f l)
+      subst (λ (o : Option Actor). Kept d m i (step_of (world_of d s) i o)) (sym (seat_get d s i inside)) (turns c s m i f l)
 
   watch_steps : (c : Context) (s : Scene) (m : Machine) → Holds d c s m → Kept d m d.processors (step (world_of d s) d.processors)
   watch_steps c s m f =
@@ -73,7 +73,7 @@ last_is d w m i f l =
     let inside : i < length s.seats = rw (f.holds.ready.sized.seats) l in
     let own : (seat s i).last ≡ (member m i).last = (f.holds.ready.each i l).self.last in
     subst (λ (u : World). last_image u i ≡ Some (member m i).last) f.world_is
-    (ap last_in (seat_from d 0 s.seats s.watch i inside) ∙ ap (λ (x : ImageContents). Some x) own)
+    (ap last_in (seat_get d s i inside) ∙ ap (λ (x : ImageContents). Some x) own)
 
 -- THE START
 
@@ -221,7 +221,9 @@ module _ (d : SetupData) (registers : List Registers) (images : List ImageConten
   machine = beginning d registers images
 
   first_is : (j : ℕ) → j < d.processors → IsFirst d j (seat scene j) (member machine j)
-  first_is j l = first_at d 0 registers images j (p.count ∙ sym p.many) (rw p.count l) p.kinds
+  first_is j l =
+      let e : 0 + j ≡ j = omega arith in
+      subst (λ (k : ℕ). IsFirst d k (seat scene j) (member machine j)) e (first_at d 0 registers images j (p.count ∙ sym p.many) (rw p.count l) p.kinds)
 
   -- the view of a processor at first
   abbrev first_view : Registers → ImageContents → ℕ → View
@@ -231,7 +233,7 @@ module _ (d : SetupData) (registers : List Registers) (images : List ImageConten
   view_is : (j : ℕ) (l : j < d.processors) → view scene machine j ≡ first_view (first_is j l).registers (first_is j l).image j
   view_is j l =
       let f = first_is j l in
-      rw (f.seat_is, f.member_is, get_or-replicate d.processors j 0 0 l, get_or-replicate {A = Option Cargo} d.processors j None None l) refl
+      rw (f.seat_is, f.member_is, get_or-replicate {A = ℕ} d.processors j 0 0 l, get_or-replicate {A = Option Cargo} d.processors j None None l) refl
 
   first_cpu : (j : ℕ) → j < d.processors → IsCpu d (first_context d) 0 j (view scene machine j)
   first_cpu j l =
@@ -250,7 +252,7 @@ module _ (d : SetupData) (registers : List Registers) (images : List ImageConten
   first_run : (j : ℕ) → j < d.processors → IsRunOf (first_context d) j (view scene machine j) (get_or scene.words.run j 0)
   first_run j l =
       subst (λ (v : View). IsRunOf (first_context d) j v (get_or scene.words.run j 0)) (sym (view_is j l))
-      (rw (get_or-replicate d.processors j 0 0 l)
+      (rw (get_or-replicate {A = ℕ} d.processors j 0 0 l)
       (record { upto = λ _ _. refl; lent = λ z. absurd (omega arith); so_far = λ z. absurd (omega arith); no_more = λ z. absurd (omega arith); late = λ z. absurd (omega arith) }))
 
   first_job : (j : ℕ) → j < d.processors → IsJobOf d (first_context d) j (member machine j).job
@@ -332,8 +334,8 @@ module _ (d : SetupData) (registers : List Registers) (images : List ImageConten
         runs = λ j l _. first_run j l;
         jobs = λ j l _. first_job j l;
         idle = λ j l _. first_idle j l;
-        signals = λ j l. rw (get_or-replicate d.processors j 0 0 l) (record { some = λ z. absurd (omega arith); off = λ z. absurd (omega arith) });
-        busies = λ j l. let f = first_is j l in rw (f.member_is, get_or-replicate d.processors j 0 0 l) (record { lies = λ z. absurd (omega arith); finished = λ z. absurd (omega arith) });
+        signals = λ j l. rw (get_or-replicate {A = ℕ} d.processors j 0 0 l) (record { some = λ z. absurd (omega arith); off = λ z. absurd (omega arith) });
+        busies = λ j l. let f = first_is j l in rw (f.member_is, get_or-replicate {A = ℕ} d.processors j 0 0 l) (record { lies = λ z. absurd (omega arith); finished = λ z. absurd (omega arith) });
       }
 
   pub first_fine : IsFine d (start d registers images) machine
