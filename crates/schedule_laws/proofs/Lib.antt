@@ -17,3 +17,4 @@ pub mod Visits
 pub mod Reports
 pub mod Works
 pub mod WorkRuns
+pub mod SessionFrames

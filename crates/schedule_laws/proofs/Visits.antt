@@ -219,13 +219,13 @@ await_smi d c i s m t f l e q =
     let some : 1 ≤ m.waves = z.some (omega arith) in
     let absent : v.present ≡ 0 = own.self.absent refl in
     let none : work_of (member m i).job ≡ 0 = own.self.idle_away refl in
-    let y : ImageContents = saved (member m i).registers (cause_of d.causes i ((member m i).visits + 1)) (member m i).image in
-    let kind : y.kind ≡ d.kind = saved_kind (member m i).registers (cause_of d.causes i ((member m i).visits + 1)) (member m i).image ∙ own.self.kind in
+    let new : ImageContents = saved (member m i).registers (cause_of d.causes i ((member m i).visits + 1)) (member m i).image in
+    let kind : new.kind ≡ d.kind = saved_kind (member m i).registers (cause_of d.causes i ((member m i).visits + 1)) (member m i).image ∙ own.self.kind in
     let put : Registers → ℕ → Option Desk → Option Desk = λ r n k. option_map (desk_saved r (cause_of d.causes i (n + 1))) k in
     let o : Option Desk = put t.registers t.visits (get_or t.held i None) in
-    let is : o ≡ Some (desk_at y None) = ap (put t.registers t.visits) (own.self.own refl refl) ∙ ap (λ (r : Registers). put r t.visits (Some (desk_at (member m i).image None))) own.self.registers ∙ ap (λ (n : ℕ). put (member m i).registers n (Some (desk_at (member m i).image None))) own.self.visits in
-    let desk : get_or (slice_set t.held i o) i None ≡ Some (desk_at y None) = own_put d c i s m t AwaitingSmi o h ∙ is in
-    simp (ne_eqb x 4 b, eq-eqb x 1 u) (refl, (own.self.phase, left, some), seated d c s (record s.words { pend = slice_set s.words.pend i 8 }) s.lying (with_member i (record (member m i) { phase = In; visits = (member m i).visits + 1; image = y }) m) i (record t { position = LookingAtSource; visits = t.visits + 1; held = slice_set t.held i o }) ls (member_holds d c i s m t (record t { position = LookingAtSource; visits = t.visits + 1; held = slice_set t.held i o }) AwaitingSmi (slice_set s.words.pend i 8) s.words.counter (record (member m i) { phase = In; visits = (member m i).visits + 1; image = y }) h (keeps_own i (record t { visits = t.visits + 1 }) o LookingAtSource) (length-set s.words.pend i 8) (signal_set d m m.waves i 8 s.words.pend g.sized.pend g.signals (λ _. record { some = λ _. some; off = λ a. absurd (omega arith) })) (λ _. omega arith) (λ _. refl) (omega arith) (λ a. record { lies = λ e. absurd (omega arith); finished = λ e. a.finished e }) refl refl refl (entering d c m.waves i 0 v (get_or (slice_set t.held i o) i None) y desk kind absent some nb own) (λ y. entering_run d c m.waves i (get_or s.words.run i 0) v (get_or (slice_set t.held i o) i None) y desk kind absent some nb own y))))
+    let is : o ≡ Some (desk_at new None) = ap (put t.registers t.visits) (own.self.own refl refl) ∙ ap (λ (r : Registers). put r t.visits (Some (desk_at (member m i).image None))) own.self.registers ∙ ap (λ (n : ℕ). put (member m i).registers n (Some (desk_at (member m i).image None))) own.self.visits in
+    let desk : get_or (slice_set t.held i o) i None ≡ Some (desk_at new None) = own_put d c i s m t AwaitingSmi o h ∙ is in
+    simp (ne_eqb x 4 b, eq-eqb x 1 u) (refl, (own.self.phase, left, some), seated d c s (record s.words { pend = slice_set s.words.pend i 8 }) s.lying (with_member i (record (member m i) { phase = In; visits = (member m i).visits + 1; image = new }) m) i (record t { position = LookingAtSource; visits = t.visits + 1; held = slice_set t.held i o }) ls (member_holds d c i s m t (record t { position = LookingAtSource; visits = t.visits + 1; held = slice_set t.held i o }) AwaitingSmi (slice_set s.words.pend i 8) s.words.counter (record (member m i) { phase = In; visits = (member m i).visits + 1; image = new }) h (record { size = length-set t.held i o; held = λ k n. get_or-set_other t.held i k o None n; chair = refl }) (length-set s.words.pend i 8) (signal_set d m m.waves i 8 s.words.pend g.sized.pend g.signals (λ _. record { some = λ _. some; off = λ a. absurd (omega arith) })) (λ _. omega arith) (λ _. refl) (omega arith) (λ a. record { lies = λ e. absurd (omega arith); finished = λ e. a.finished e }) refl refl refl (entering d c m.waves i 0 v (get_or (slice_set t.held i o) i None) new desk kind absent some nb own) (λ y. entering_run d c m.waves i (get_or s.words.run i 0) v (get_or (slice_set t.held i o) i None) new desk kind absent some nb own y))))
     (λ (u : x ≢ 1). simp (ne_eqb x 4 b, ne_eqb x 1 u) (stays d c s m f))
     (cases_eq x 1))
     (cases_eq x 4)

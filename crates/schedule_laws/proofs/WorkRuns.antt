@@ -205,7 +205,7 @@ same_course d c m h =
 more_course : (d : SetupData) (c : Context) (m : Machine) (i n a : ℕ) (S : Status) (said : List Event) → begins_from (mode_of d) < c.stage
     → c.session.serving ≡ Some said → GoesOn c.place → HasOpen (seat_listed c i) n → serves_from (mode_of d) ≤ c.stage → IsCourse d c m.registrations m.pool
     → IsCourse d (relisted c (Some (said ++ Ran i n a S ∷ [])) (next (program_of d) c.place (Ran i n a S))) m.registrations m.pool
-more_course d c m i n a S said late is on open st h =
+more_course d c m i n a S said late is on given st h =
     let old = h.listed st in
     let e : Event = Ran i n a S in
     let led : Leads (program_of d) (first_place d c.wave m.registrations m.pool) said c.place =
@@ -217,7 +217,7 @@ more_course d c m i n a S said late is on open st h =
       registered = λ z. absurd (omega arith);
       pooled = λ z. absurd (omega arith);
       me = h.me;
-      led = λ _. leads_on (program_of d) (first_place d c.wave m.registrations m.pool) said c.place e led (on, open);
+      led = λ _. leads_on (program_of d) (first_place d c.wave m.registrations m.pool) said c.place e led (on, given);
       listed = λ _. record {
         size = length-set c.place.state.seats i (run_at (seat_listed c i) a S) ∙ old.size;
         same = ap (λ (y : Place). record y { state = record y.state { seats = seats } }) old.same;
@@ -239,14 +239,14 @@ other_job d c said i j n a S job ne h =
 -- what holds of the job that was run, in either list
 record IsRunJob (d : SetupData) (c : Context) (i : ℕ) (job : Job) : Type 0 where
   procedure : job.procedure < length d.procedures
-  open : HasOpen (seat_known c i) job.number
+  given : HasOpen (seat_known c i) job.number
 
 ran_job : (d : SetupData) (c : Context) (said : Option (List Event)) (p : Place) (i : ℕ) (job : Job) (answer : ℕ × Status) (o : Option Job)
     → o ≡ Some (record job { done = Some answer }) → IsRunJob d c i job → (has_job (seat_known c i) ≡ false → ⊥)
     → (GoesOn c.chair.course.place → serving.seat p.state i ≡ run_at (seat_known c i) answer.0 answer.1) → IsJobOf d (relisted c said p) i o
 ran_job d c said p i job answer o e h busy listed =
     subst (λ (y : Option Job). IsJobOf d (relisted c said p) i y) (sym e)
-    (record { procedure = λ _. h.procedure; free = λ _ z. absurd (busy z); given = λ _ _. h.open; listed = λ _ on. listed on })
+    (record { procedure = λ _. h.procedure; free = λ _ z. absurd (busy z); given = λ _ _. h.given; listed = λ _ on. listed on })
 
 -- members but the one that moves
 moved_jobs : (d : SetupData) (c c' : Context) (m : Machine) (i : ℕ) (x : Member) → i < length m.members → i < d.processors → i ≢ c.bsp
@@ -299,7 +299,7 @@ give_back d c i s m t f l e q =
     let busy : has_job (seat_known c i) ≡ false → ⊥ = (λ z. let y = job.free st z in omega arith) in
     let owed : has_job (seat_known c i) ≡ true = ⊎_elim (λ (a : has_job (seat_known c i) ≡ true). a) (λ (a : has_job (seat_known c i) ≡ false). absurd (busy a)) (cases_Bool (has_job (seat_known c i))) in
     let open_known : HasOpen (seat_known c i) J.job.number = subst (λ (o : Option Job). IsSomeAnd o (λ y. HasOpen (seat_known c i) y.number)) J.is (job.given st owed) in
-    let run_job : IsRunJob d c i J.job = record { procedure = procedure; open = open_known } in
+    let run_job : IsRunJob d c i J.job = record { procedure = procedure; given = open_known } in
     let can : can_run d J.job ≡ true = rw (J.undone, lt-ltb J.job.procedure (length d.procedures) procedure) refl in
     let desk : get_or t.held i None ≡ Some (desk_at image (Some J.job)) = own.self.own_job refl ∙ ap (λ (o : Option Job). Some (desk_at image o)) J.is in
     let x : Member = worked d (answer.0, answer.1) (member m i) in
