@@ -18,3 +18,4 @@ pub mod Reports
 pub mod Works
 pub mod WorkRuns
 pub mod SessionFrames
+pub mod Elections
