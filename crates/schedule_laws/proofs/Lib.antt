@@ -2,6 +2,7 @@ pub mod Scenes
 pub mod Stations
 pub mod Leads
 pub mod Sums
+pub mod HandlerFits
 pub mod Invariant
 pub mod Frames
 pub mod OwnFrames
