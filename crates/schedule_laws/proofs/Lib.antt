@@ -20,3 +20,4 @@ pub mod Works
 pub mod WorkRuns
 pub mod SessionFrames
 pub mod Elections
+pub mod Gatherings
