@@ -21,3 +21,8 @@ pub mod WorkRuns
 pub mod SessionFrames
 pub mod Elections
 pub mod Gatherings
+pub mod Loops
+pub mod Counts
+pub mod GatherLooks
+pub mod Closes
+pub mod Turns

@@ -125,7 +125,29 @@ resting_course d c c' m e a b h =
 pub idle_same : (d : SetupData) (c c' : Context) (j : ℕ) (t : Seat) → c'.chair ≡ c.chair → IsIdle d c j t → IsIdle d c' j t
 idle_same d c c' j t e h = record { size = h.size; held = h.held; chair = rw e h.chair }
 
--- A step within an open session that changes neither the words that views show nor the counter, where nothing is served.
+-- A step within an open session that changes neither the words that views show nor the counter, where nothing is served. The BSP may have a new list of desks.
+pub open_listed : (d : SetupData) (c : Context) (k x k' x' : ℕ) (s s' : Scene) (m m' : Machine) (session : Session) (wave blocked : ℕ) (listed : List Bool) → 1 ≤ k → k ≤ 9 → 2 ≤ k' → k' ≤ 9
+    → k ≢ 4 → (k' ≤ 3 → k ≤ 3) → k' ≢ serves_from (mode_of d) → IsReady d (at_stage c k x) s m → view s' m' ≡ view s m → s'.seats ≡ s.seats
+    → s'.words.counter ≡ s.words.counter → s'.words.run ≡ s.words.run → s'.watch ≡ s.watch → m'.waves ≡ m.waves → m'.excepted ≡ m.excepted
+    → ((j : ℕ) → j < d.processors → IsSignal d m'.waves (view s m j).visits (get_or s'.words.pend j 0))
+    → ((j : ℕ) → j < d.processors → IsBusy (member m' j) (get_or s'.words.busy j 0) (get_or s'.lying.busy j None)) → IsSized d (at_stage c k x) (sizes s' m')
+    → IsWords d (record (at_stage c k' x') { wave = wave; blocked = blocked; session = session; listed = listed }) (globe s' m')
+    → IsSession (mode_of d) (record (at_stage c k' x') { wave = wave; blocked = blocked; session = session; listed = listed })
+    → IsCourse d (record (at_stage c k' x') { wave = wave; blocked = blocked; session = session; listed = listed }) m'.registrations m'.pool
+    → IsReady d (record (at_stage c k' x') { wave = wave; blocked = blocked; session = session; listed = listed }) s' m'
+open_listed d c k x k' x' s s' m m' session wave blocked listed a b low high off early n f same seats counter run watch waves excepted signals busies sized words is course =
+    let c1 : Context = at_stage c k x in
+    let c2 : Context = record (at_stage c k' x') { wave = wave; blocked = blocked; session = session; listed = listed } in
+    reframe d c1 c2 s s' m m' f same seats (rw (watch, waves, excepted) f.chipset) waves signals busies
+    (record { seats = sized.seats; pend = sized.pend; present = sized.present; run = sized.run; busy = sized.busy; on_present = sized.on_present; on_run = sized.on_run; on_busy = sized.on_busy; members = sized.members; held = λ _. sized.held a })
+    words is course
+    (rw (counter, run) (open_totals c1 c2 s.words.counter (get_or s.words.run c.bsp 0) _ _ _ a b high f.totals))
+    (λ j g. open_cpu d c1 c2 m.waves j (view s m j) refl refl b high low off early (f.each j g))
+    (λ j g q. rw run (open_run c1 c2 j (view s m j) (get_or s.words.run j 0) b high (f.runs j g q)))
+    (λ j g q. resting_job d c1 c2 j (view s m j).job n (f.jobs j g q))
+    (λ j g q. idle_same d c1 c2 j (seat s j) refl (f.idle j g q))
+
+-- the same where the list stays
 pub open_ready : (d : SetupData) (c : Context) (k x k' x' : ℕ) (s s' : Scene) (m m' : Machine) (session : Session) (wave blocked : ℕ) → 1 ≤ k → k ≤ 9 → 2 ≤ k' → k' ≤ 9
     → k ≢ 4 → (k' ≤ 3 → k ≤ 3) → k' ≢ serves_from (mode_of d) → IsReady d (at_stage c k x) s m → view s' m' ≡ view s m → s'.seats ≡ s.seats
     → s'.words.counter ≡ s.words.counter → s'.words.run ≡ s.words.run → s'.watch ≡ s.watch → m'.waves ≡ m.waves → m'.excepted ≡ m.excepted
@@ -136,16 +158,7 @@ pub open_ready : (d : SetupData) (c : Context) (k x k' x' : ℕ) (s s' : Scene) 
     → IsCourse d (record (at_stage c k' x') { wave = wave; blocked = blocked; session = session }) m'.registrations m'.pool
     → IsReady d (record (at_stage c k' x') { wave = wave; blocked = blocked; session = session }) s' m'
 open_ready d c k x k' x' s s' m m' session wave blocked a b low high off early n f same seats counter run watch waves excepted signals busies sized words is course =
-    let c1 : Context = at_stage c k x in
-    let c2 : Context = record (at_stage c k' x') { wave = wave; blocked = blocked; session = session } in
-    reframe d c1 c2 s s' m m' f same seats (rw (watch, waves, excepted) f.chipset) waves signals busies
-    (record { seats = sized.seats; pend = sized.pend; present = sized.present; run = sized.run; busy = sized.busy; on_present = sized.on_present; on_run = sized.on_run; on_busy = sized.on_busy; members = sized.members; held = λ _. sized.held a })
-    words is course
-    (rw (counter, run) (open_totals c1 c2 s.words.counter (get_or s.words.run c.bsp 0) _ _ _ a b high f.totals))
-    (λ j g. open_cpu d c1 c2 m.waves j (view s m j) refl refl b high low off early (f.each j g))
-    (λ j g q. rw run (open_run c1 c2 j (view s m j) (get_or s.words.run j 0) b high (f.runs j g q)))
-    (λ j g q. resting_job d c1 c2 j (view s m j).job n (f.jobs j g q))
-    (λ j g q. idle_same d c1 c2 j (seat s j) refl (f.idle j g q))
+    open_listed d c k x k' x' s s' m m' session wave blocked c.listed a b low high off early n f same seats counter run watch waves excepted signals busies sized words is course
 
 -- the words at another stage of an open session, with `inside`, `insync` and `source` as they then are
 pub words_open : (d : SetupData) (c : Context) (k x k' x' : ℕ) (s : Scene) (m : Machine) (inside insync : ℕ) (o : Option Session) (session : Session) (wave blocked : ℕ)
