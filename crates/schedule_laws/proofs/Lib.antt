@@ -18,3 +18,5 @@ pub mod Reports
 pub mod Works
 pub mod WorkRuns
 pub mod SessionFrames
+pub mod Loops
+pub mod ClosedFrames
