@@ -26,3 +26,5 @@ pub mod Counts
 pub mod GatherLooks
 pub mod Closes
 pub mod Turns
+pub mod ClosedFrames
+pub mod Locks
