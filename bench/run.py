@@ -21,7 +21,7 @@ from make_inputs import ACTORS, LOOKS, MANY
 
 HERE = pathlib.Path(__file__).resolve().parent
 OUT = HERE.parent / "crates" / "smmplay" / "out"
-SIMULATOR = [sys.executable, str(HERE.parent / "reference" / "smmplay.py"), "--all"]
+SIMULATOR = [sys.executable, str(HERE.parent / "reference" / "smmplay.py")]
 TIMER = shutil.which("time")
 # so many events more, and what they cost stands out of the noise
 ENOUGH = 4000

@@ -26,13 +26,12 @@ class Outcome:
 @dataclass
 class Expected:
     """What is known of the outcome; None where nothing is said. `lines` has texts by their number from 1, and the
-    last line as number -1. `any_of` has pairs of a status and a text, of which one must hold."""
+    last line as number -1."""
     status: int | None = None
     text: bytes | None = None
     lines: dict = field(default_factory=dict)
     judges_after: bool = False
     after: bytes | None = None
-    any_of: list = field(default_factory=list)
 
 
 @dataclass
@@ -63,13 +62,7 @@ def differences(expected, outcome):
             found.append(f"line {number} is '{line}', not '{text}'")
     if expected.judges_after and outcome.after != expected.after:
         found.append(difference_of_bytes(expected.after, outcome.after))
-    if expected.any_of and (outcome.status, outcome.text) not in expected.any_of:
-        found.append(f"status {outcome.status} {first_line(outcome.text)}, not one of {expected.any_of}")
     return found
-
-
-def first_line(text):
-    return "'" + text.split(b"\n")[0].decode(errors="replace") + "'"
 
 
 def first_difference(wanted, text):
@@ -125,7 +118,7 @@ def by_program(path, case, files):
         return Outcome(done.returncode, done.stdout or b"", folder.after(case.words))
 
 
-def by_reference(plays_all, case, files):
+def by_reference(case, files):
     """The outcome of the plain simulator."""
     def write(text):
         if case.is_full:
@@ -134,7 +127,7 @@ def by_reference(plays_all, case, files):
     written = []
     with Folder(files) as folder:
         os.chdir(folder.path)
-        status = smmplay.command(case.words, write, plays_all)
+        status = smmplay.command(case.words, write)
         return Outcome(status, "".join(written).encode(), folder.after(case.words))
 
 
@@ -143,7 +136,7 @@ def broken_rule(files, words):
     with Folder(files) as folder:
         os.chdir(folder.path)
         try:
-            world = smmplay.world_of(words, True)
+            world = smmplay.world_of(words)
         except smmplay.Fault:
             return []
         images = smmplay.load_images(words[2], world.platform)
@@ -158,7 +151,7 @@ def broken_line(case, change):
     """The first line of a changed report whose label breaks its rule, as `line L rule R`."""
     with Folder(case.files) as folder:
         os.chdir(folder.path)
-        world = smmplay.world_of(case.words, True)
+        world = smmplay.world_of(case.words)
         images = smmplay.load_images(case.words[2], world.platform)
     way, number = change.split()
     before, after = int(number) - (way == "without"), int(number) - (way == "twice")
@@ -171,21 +164,16 @@ def broken_line(case, change):
 def judge(case, programs):
     """Plays a case: pairs of a player's name and what differs, for the simulator and for each build.
 
-    The simulator plays each case whole, and what it plays must be a run of the abstract machine. The program must do what
-    the simulator does that knows what is built; and what is expected, where that isn't status 9 alone."""
+    What the simulator plays must be what is expected, and a run of the abstract machine. The program must do what the simulator
+    does, byte for byte."""
     if case.broken is not None:
         return [("reference", differing_rule(case))]
-    whole = by_reference(True, case, case.files)
-    today = by_reference(False, case, case.files)
-    expected = case.expected if case.like is None else exactly(by_reference(True, case, case.like))
-    judged = [("reference", differences(expected, whole) + broken_rule(case.files, case.words))]
-    is_built = today.status != 9 or whole.status == 9
+    played = by_reference(case, case.files)
+    expected = case.expected if case.like is None else exactly(by_reference(case, case.like))
+    judged = [("reference", differences(expected, played) + broken_rule(case.files, case.words))]
     for name, path in programs:
         outcome = by_program(path, case, case.files)
-        found = differences(exactly(today), outcome)
-        if is_built and not found:
-            found = differences(expected, outcome)
-        judged.append((name, found))
+        judged.append((name, differences(exactly(played), outcome) or differences(expected, outcome)))
     return judged
 
 

@@ -1,17 +1,15 @@
 """Random cases. A case follows from its seed and its number alone.
 
-Most are platforms that the program plays, with images and schedules that get somewhere; the rest have more
-processors, other operations, or a fault in one of the files or in the words.
+Most are right platforms of 1 to 17 processors, now and then of 64, with images and schedules that get somewhere; the rest
+have a fault in one of the files or in the words.
 """
 import random
 
 from player import Case  # it finds the modules of reference/
 from reading import SIZES
 
-import built
-
-# How often a case is of a kind: a platform that is built, any platform, and a fault of each file or of the words.
-WEIGHTS = {"built": 50, "any": 18, "platform": 14, "images": 7, "schedule": 7, "words": 4}
+# How often a case is of a kind: one processor whose handler writes, any platform, and a fault of each file or of the words.
+WEIGHTS = {"writes": 12, "any": 56, "platform": 14, "images": 7, "schedule": 7, "words": 4}
 
 REGISTERS = """GDTBASE IDTBASE LDTBASE GDTLIMIT LDTINFO ES CS SS DS FS GS LDTR_SEL TR_SEL DR7 DR6 R8 R9 R15 RAX RBX RCX RDX
     RSP RBP RSI RDI RIP RFLAGS CR0 CR3 CR4 IO LMA PROCESSOR_ID AUTO_HALT IO_RESTART""".split()
@@ -27,7 +25,7 @@ def random_case(seed, number):
     """The case of a seed and a number."""
     draw = random.Random(f"{seed} {number}")
     kind = draw.choices(list(WEIGHTS), WEIGHTS.values())[0]
-    tree = platform_tree(draw, kind != "any")
+    tree = platform_tree(draw, kind not in ("any", "schedule"))
     n, files = tree["processors"], {}
     files["P"] = toml_of(tree, draw).encode()
     files["I"] = image_file(draw, tree["map"], n, "smram" in tree and draw.random() < 0.8)
@@ -46,9 +44,9 @@ def random_case(seed, number):
 
 # ---- platforms
 
-def platform_tree(draw, is_built):
-    """A right platform as a tree of values; one that the program plays, where that is asked."""
-    n = 1 if is_built else draw.choice([1, 1, 2, 2, 2, 3, 3, 4, 8, 64])
+def platform_tree(draw, is_small):
+    """A right platform as a tree of values; where that is asked, of one processor whose handler writes."""
+    n = 1 if is_small else draw.choice([1, 1, 1, 2, 2, 2, 2, 3, 3, 3, 4, 4, 5, 8, 9, 16, 17, 64])
     visits = draw.choice([1, 1, 2, 3, 4, 16])
     looks = [1, 2, 3, 8] if n < 64 else [1, 2]
     tree = {"version": 1, "processors": n, "map": draw.choice(["intel64", "intel64", "ia32"]), "policy": "elected",
@@ -56,14 +54,14 @@ def platform_tree(draw, is_built):
             "ops": draw.choice([1, 2, 3, 4, 5, 8, 64, 64, 64, 64, 64, 64])}
     if draw.random() < 0.3:
         tree["ids"] = draw.sample([0, 1, 2, 3, 17, 2**31, 2**63 - 1, *range(100, 164)], n)
-    if not is_built:
+    if not is_small:
         spread(draw, tree)
     if draw.random() < 0.4:
         tree["smram"] = area(draw, tree["processors"])
-    count = 1 if is_built else draw.randint(1, min(visits, 3))
-    tree["wave"] = [wave(draw, n, is_built) for _ in range(count)]
-    tree["handler"] = handlers(draw, n, is_built)
-    tree["procedure"] = [] if is_built and draw.random() < 0.8 else procedures(draw)
+    count = 1 if is_small else draw.randint(1, min(visits, 3))
+    tree["wave"] = [wave(draw, n, is_small) for _ in range(count)]
+    tree["handler"] = handlers(draw, n, is_small)
+    tree["procedure"] = [] if is_small and draw.random() < 0.8 else procedures(draw)
     tree["cause"] = causes(draw, n, visits)
     return {key: value for key, value in tree.items() if value != []}
 
@@ -86,24 +84,23 @@ def area(draw, n):
     return smram
 
 
-def wave(draw, n, is_built):
-    if is_built:
+def wave(draw, n, is_small):
+    if is_small:
         return {"status": ["prompt"], "manage": ["root"]}
-    arrivals = ["prompt"] * 9 + ["delayed", "blocked", "absent"]
+    arrivals = ["prompt"] * 12 + ["delayed", "blocked", "absent"]
     kinds = ["root"] * 8 + GUIDS
-    return {"status": draw.choices(arrivals, k=n), "manage": draw.choices(kinds, k=draw.choice([0, 1, 1, 1, 1, 2, 3]))}
+    return {"status": draw.choices(arrivals, k=n), "manage": draw.choices(kinds, k=draw.choice([0, 1, 1, 1, 2, 2, 3]))}
 
 
-def handlers(draw, n, is_built):
-    if is_built:
-        words = sorted(built.OPERATIONS)
-        ops = [operation(draw, draw.choice(words), n) for _ in range(draw.choice([0, 1, 1, 2, 3, 5]))]
+def handlers(draw, n, is_small):
+    if is_small:
+        ops = [operation(draw, "write", n) for _ in range(draw.choice([0, 1, 1, 2, 3, 5]))]
         return draw.choice([[], [handler(draw, 0, "root", ops)], [handler(draw, 0, "root", ops)]])
     names = ["write", "write", "read", "read", *ALONE, *WITH_OTHERS, *WITH_OTHERS, "launch"]
     made = []
-    for place in range(draw.choice([0, 1, 1, 2, 3])):
-        ops = [operation(draw, draw.choice(names), n) for _ in range(draw.choice([0, 2, 3, 6, 12]))]
-        made.append(handler(draw, place, draw.choice(["root"] * 9 + ["none", *GUIDS]), ops))
+    for place in range(draw.choice([0, 1, 1, 1, 2, 3])):
+        ops = [operation(draw, draw.choice(names), n) for _ in range(draw.choice([0, 2, 4, 8, 12]))]
+        made.append(handler(draw, place, draw.choice(["root"] * 14 + ["none", *GUIDS]), ops))
     return made
 
 
@@ -126,7 +123,7 @@ def operation(draw, word, n):
     cpu = draw.choice([0, 0, n - 1, draw.randrange(n), n, 65535] if draw.random() < 0.3 else [draw.randrange(n)])
     into = f"v{draw.choice([0, 0, 0, 1, 7])}"
     register, width = draw.choice(REGISTERS), draw.choice([0, 1, 2, 4, 4, 8, 8, 9, 24])
-    job = {"cpu": cpu, "procedure": draw.choice(["p0", "p0", "p1", "p9"]), "arg": number(draw), "into": into}
+    job = {"cpu": draw.choice([n - 1, n - 1, n // 2, cpu]), "procedure": draw.choice(["p0", "p0", "p0", "p1", "p9"]), "arg": number(draw), "into": into}
     keys = {
         "set": {"into": into, "value": number(draw)},
         "read": {"cpu": cpu, "reg": register, "width": width, "into": into},
@@ -142,7 +139,7 @@ def operation(draw, word, n):
 
 def procedures(draw):
     return [{"name": f"p{i}", "act": draw.choice(["get", "put"]), "reg": draw.choice(REGISTERS + ["RAX", "RSP"] * 9)}
-            for i in range(draw.choice([0, 1, 2, 2]))]
+            for i in range(draw.choice([0, 1, 2, 2, 2]))]
 
 
 def causes(draw, n, visits):
@@ -289,10 +286,12 @@ def schedule_text(draw, n):
     """Items that get somewhere: short and long turns, all at once, sometimes none."""
     if draw.random() < 0.05:
         return ""
-    if draw.random() < 0.25:
-        return f"all*{draw.choice([10, 40, 100, 400])}"
+    if draw.random() < 0.3:
+        return f"all*{draw.choice([10, 40, 100, 400, 1000])}"
     first = f"{n}*{n + 2}" if draw.random() < 0.7 else ""
-    items = [first] + [item(draw, n) for _ in range(draw.choice([5, 20, 60, 120]))]
+    items = [first] + [item(draw, n) for _ in range(draw.choice([5, 20, 60, 120, 200]))]
+    if draw.random() < 0.3:
+        items.append(f"all*{draw.choice([20, 100, 400])}")
     return draw.choice([" ", " ", "\n", "\t"]).join(items)
 
 

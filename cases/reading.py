@@ -141,8 +141,7 @@ def platform_case(path, platform, row):
         raise SystemExit(f"{path.name}: the platform hasn't the text of '{row}'")
     files = {"P": unescaped_bytes(changed), "S": b""}
     if answer == "ok":
-        accepted = [(9, b"fault not-built P\n"), (6, b"fault read I\n")]
-        return Case(f"{path.name}: {row}", files, expected=Expected(any_of=accepted))
+        return Case(f"{path.name}: {row}", files, expected=fault(6, "read I"))
     return Case(f"{path.name}: {row}", files, expected=fault(2, f"platform {answer}"))
 
 

@@ -46,6 +46,15 @@ def swapped_words(definition, enum, first, second):
     return edits
 
 
+# the first two bytes of a GUID change places
+SWAP = "use Rattle.std.specs.Prelude.{swap}"
+SWAPPED_BYTES = """        Ok(guid) => {
+            let mut bytes = guid.into_bytes();
+            bytes.swap(0, 1);
+            Some(HandlerType::Typed(u128::from_be_bytes(bytes)))
+        }
+"""
+
 CHANGES = {
     "looks-swapped": [
         Edit(f"{FILE}/specs/Head.antt", "record { t1 = t1; t2 = t2 }", "record { t1 = t2; t2 = t1 }"),
@@ -59,11 +68,19 @@ CHANGES = {
         Edit(f"{FILE}/src/area.rt", "        tile,\n        code,\n", "        tile: code,\n        code: tile,\n"),
     ],
     "guid-bytes": [
-        Edit(f"{DOCUMENT}/specs/Words.antt", "Typed (from_be_bytes w128 bytes)", "Typed (from_le_bytes w128 bytes)"),
-        Edit(f"{DOCUMENT}/specs/Words.antt", "{w128, from_be_bytes}", "{w128, from_le_bytes}"),
-        Edit(f"{DOCUMENT}/src/word.rt", "guid.as_u128()", "guid.to_u128_le()"),
-        Edit(f"{DOCUMENT}/proofs/word/guid_list/Answers.antt", "{w128, from_be_bytes}", "{w128, from_le_bytes}"),
-        Edit(f"{DOCUMENT}/proofs/word/guid_list/Answers.antt", "Typed (from_be_bytes w128 bytes)", "Typed (from_le_bytes w128 bytes)"),
+        Edit(f"{DOCUMENT}/specs/Words.antt", "Typed (from_be_bytes w128 bytes)", "Typed (from_be_bytes w128 (swap bytes 0 1))"),
+        Edit(f"{DOCUMENT}/specs/Words.antt", "use Rattle.uuid.specs.Text.{parsed}", f"use Rattle.uuid.specs.Text.{{parsed}}\n{SWAP}"),
+        Edit(f"{DOCUMENT}/src/word.rt", "        Ok(guid) => Some(HandlerType::Typed(guid.as_u128())),\n", SWAPPED_BYTES),
+        Edit(f"{DOCUMENT}/proofs/word/guid_list/Answers.antt", "Typed (from_be_bytes w128 bytes)", "Typed (from_be_bytes w128 (swap bytes 0 1))"),
+        Edit(f"{DOCUMENT}/proofs/word/guid_list/Answers.antt", "use Rattle.uuid.specs.Text.{parsed}", f"use Rattle.uuid.specs.Text.{{parsed}}\n{SWAP}"),
+    ],
+    "flag-and-word": [
+        Edit(f"{DOCUMENT}/specs/Reading.antt", "ok_or (as_bool value) (WrongType path)", "ok_or (as_bool value) (Word path)"),
+        Edit(f"{DOCUMENT}/src/document.rt", "Some(flag) => Ok(flag),\n        None => Err(WalkFault::WrongType(path)),", "Some(flag) => Ok(flag),\n        None => Err(WalkFault::Word(path)),"),
+    ],
+    "size-and-base": [
+        Edit(f"{FILE}/specs/Area.antt", "Err (Range (path_to Smram key.Size)", "Err (Range (path_to Smram key.Base)"),
+        Edit(f"{FILE}/src/area.rt", "WalkFault::Range(path_to(TablePlace::Smram, Key::Size)", "WalkFault::Range(path_to(TablePlace::Smram, Key::Base)"),
     ],
     "port-and-length": [
         Edit(f"{FILE}/specs/Causes.antt", "number_at (path_to place key.Port)", "number_at (path_to place key.Length)"),

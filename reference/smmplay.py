@@ -1,13 +1,11 @@
 #!/usr/bin/env python3
-"""The command, as a plain simulator: `smmplay.py [--all] step PLATFORM IMAGES SCHEDULE AFTER`.
+"""The command, as a plain simulator: `smmplay.py step PLATFORM IMAGES SCHEDULE AFTER`.
 
-It answers as the proved program `smmplay` does: the same report or fault line, status and images after. With `--all`
-it plays each right platform; without it, those that the program plays (`built.py`), and status 9 for the others.
+It answers as the proved program `smmplay` does: the same report or fault line, status and images after.
 """
 import os
 import sys
 
-import built
 from images import ImagesFault, read_images, write_images
 from layout import RelocationFault
 from platform_file import PlatformFault, read_platform
@@ -54,15 +52,12 @@ def report_of(world):
     return "".join(lines) + end
 
 
-def load_platform(name, plays_all):
+def load_platform(name):
     data = load(name, PLATFORM_LIMIT)
     try:
-        platform = read_platform(data)
+        return read_platform(data)
     except PlatformFault as fault:
         raise Fault(2, f"platform {fault}") from None
-    if not plays_all and not built.is_built(platform):
-        raise Fault(9, f"not-built {name}")
-    return platform
 
 
 def load_images(name, platform):
@@ -95,12 +90,12 @@ def is_name(word):
     return not word.startswith("-")
 
 
-def world_of(words, plays_all):
+def world_of(words):
     """The world that a command of the right form leaves."""
     if len(words) != 5 or words[0] != "step" or not all(map(is_name, words)):
         raise Fault(1, "usage")
     names = words[1:]
-    platform = load_platform(names[0], plays_all)
+    platform = load_platform(names[0])
     images = load_images(names[1], platform)
     schedule = load_schedule(names[2], platform)
     try:
@@ -109,19 +104,19 @@ def world_of(words, plays_all):
         raise Fault(3, f"images {fault}") from None
 
 
-def play(words, plays_all=False):
+def play(words):
     """The status of a command, what it writes, and the file that it saves under its last word, or None."""
     try:
-        world = world_of(words, plays_all)
+        world = world_of(words)
     except Fault as fault:
         return fault.status, f"fault {fault.line}\n", None
     return 0, report_of(world), write_images(world.resumed)
 
 
-def command(words, write, plays_all=False):
+def command(words, write):
     """Does a whole command: its text goes out by `write`, the images after to their file. The status; that of a refusal
     stays where its line can't be written."""
-    status, text, after = play(words, plays_all)
+    status, text, after = play(words)
     try:
         write(text)
         if after is not None:
@@ -139,8 +134,7 @@ def to_standard_output(text):
 
 
 def main(words):
-    plays_all = words[:1] == ["--all"]
-    return command(words[plays_all:], to_standard_output, plays_all)
+    return command(words, to_standard_output)
 
 
 if __name__ == "__main__":

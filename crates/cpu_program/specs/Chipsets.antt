@@ -1,6 +1,6 @@
 -- The chipset, row by row: it announces each wave, sends its interrupts, and waits until it was served; after the last wave it turns
 -- all signals off. The chipset as an actor is the project's own.
-use Rattle.std.specs.Prelude.{ℕ, zero, suc, ◌+◌, ◌==◌, nat_le, nat_lt, Bool, true, false, if◌then◌else◌, List, [], length, slice_get, slice_index_or, Option, Some, None}
+use Rattle.std.specs.Prelude.{ℕ, zero, suc, ◌+◌, ◌==◌, ◌||◌, nat_le, nat_lt, Bool, true, false, if◌then◌else◌, List, [], length, slice_get, slice_index_or, Option, Some, None}
 use Rattle.std.specs.List.{count_by}
 use Rattle.cpu_table.specs.declared.waves.Arrival.{Arrival}
 use Rattle.cpu_table.specs.declared.waves.Arrival.TheVariants.{Prompt, Delayed, Blocked, Absent}
@@ -47,11 +47,17 @@ abbrev pub at_wave_row : Row → Chipset → Chipset
 at_wave_row r c = record c { row = Some r }
 
 -- the row of the next processor of a loop, or what comes after it
+abbrev pub raise_row : ℕ → ℕ → Row
+raise_row cpu processors = if nat_lt cpu processors then row.RaiseWave cpu else row.WatchSource 0
+
+abbrev pub off_row : ℕ → ℕ → Option Row
+off_row cpu processors = if nat_lt cpu processors then Some (row.RaiseOff cpu) else None
+
 abbrev pub to_raise : ℕ → Chipset → Chipset
-to_raise cpu c = at_wave_row (if nat_lt cpu c.setup.processors then row.RaiseWave cpu else row.WatchSource 0) c
+to_raise cpu c = at_wave_row (raise_row cpu c.setup.processors) c
 
 abbrev pub to_off : ℕ → Chipset → Chipset
-to_off cpu c = record c { row = if nat_lt cpu c.setup.processors then Some (row.RaiseOff cpu) else None }
+to_off cpu c = record c { row = off_row cpu c.setup.processors }
 
 -- after a wave the next one is announced; after the last the signals are turned off
 abbrev pub after_wave : Chipset → Chipset
@@ -70,7 +76,10 @@ want_at _ c = want.Off
 
 -- a look for the wave to be taken; both rounds of looks are its time
 abbrev pub is_watched : Chipset → ℕ → ℕ → Bool
-is_watched c looks found = if found == 0 then true else nat_le (c.setup.t1 + c.setup.t2) (looks + 1)
+is_watched c looks found = found == 0 || nat_le (c.setup.t1 + c.setup.t2) (looks + 1)
+
+abbrev pub watched_row : Chipset → ℕ → ℕ → Row
+watched_row c looks found = if is_watched c looks found then row.AwaitServed else row.WatchSource (looks + 1)
 
 -- what the event at a row says by the number found, and the chipset after it
 abbrev pub taken_at : Row → Chipset → ℕ → Taken Chipset
@@ -78,7 +87,7 @@ taken_at row.AnnounceBlocked c found = says (say.Excepted (blocked_in c.setup.wa
 taken_at row.AnnounceWave c found = says (say.Wave c.wave) (to_raise 0 c)
 taken_at (row.RaiseWave cpu) c found = says say.Silent (to_raise (cpu + 1) c)
 taken_at (row.WatchSource looks) c found =
-    says say.Silent (at_wave_row (if is_watched c looks found then row.AwaitServed else row.WatchSource (looks + 1)) c)
+    says say.Silent (at_wave_row (watched_row c looks found) c)
 taken_at row.AwaitServed c found = says say.Silent (after_wave c)
 taken_at (row.RaiseOff cpu) c found = says say.Silent (to_off (cpu + 1) c)
 taken_at _ c found = says say.Silent c

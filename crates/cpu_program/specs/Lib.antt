@@ -3,3 +3,7 @@ pub mod Processors
 pub mod Hands
 pub mod Chipsets
 pub mod Programs
+pub mod Bounds
+pub mod Views
+pub mod Laws
+pub mod Platforms

@@ -7,7 +7,7 @@ use Rattle.smm_base.specs.declared.kinds.Cause.{Cause}
 use Rattle.smm_base.specs.declared.kinds.Policy.{Policy}
 use Rattle.smm_base.specs.declared.kinds.Policy.TheVariants.{Elected, Fixed}
 use Rattle.smm_base.specs.declared.status.Status.{Status}
-use Rattle.cpu_regs.specs.Registers.{loaded}
+use Rattle.cpu_regs.specs.Registers.{Registers, loaded}
 use Rattle.cpu_regs.specs.Entering.{saved, after}
 use Rattle.cpu_table.specs.Data.{SetupData}
 use Rattle.cpu_table.specs.declared.setup.CauseAt.{CauseAt}
@@ -33,11 +33,12 @@ use Rattle.handler_ops.specs.declared.desk.Desk.{Desk}
 use Rattle.handler_ops.specs.declared.desk.Job.{Job}
 use Rattle.handler_ops.specs.declared.need.Need.{Need}
 use Rattle.handler_ops.specs.declared.need.Need.TheVariants as need
+use Rattle.handler_ops.specs.declared.row.Row.{Row as ServerRow}
 use Rattle.handler_ops.specs.Serving.{seat}
 use Rattle.handler_ops.specs.Course.{is_held, desk_of, label_of, has_job}
 use Rattle.handler_ops.specs.Sessions.{Session, begun_session}
 use Rattle.handler_ops.specs.Told.{need_as, handed_as}
-use Rattle.handler_ops.specs.Answering.{taken_off, move_as, kept_as, told_on, answered}
+use Rattle.handler_ops.specs.Answering.{is_at_hand, taken_off, move_as, kept_as, told_on, answered}
 use Rattle.cpu_program.specs.Actors.{Processor, Part, Between, Entering, Gathering, Closing, Serving, Exiting, Reporting, Off}
 
 -- WHAT A PROCESSOR HAS
@@ -89,17 +90,24 @@ cause_of causes cpu visit = cause_in (find (is_of_visit cpu visit) causes)
 abbrev pub between : Row → Processor → Processor
 between r p = record p { part = Between r }
 
+-- how the close of a session and the way out of the others begin
+abbrev pub close_begun : Processor → close.ClosePosition
+close_begun p = close.close_of p.setup.processors p.me (desks_held p.held) (is_relaxed p.setup.mode)
+
+abbrev pub exit_begun : Processor → exit.ExitPosition
+exit_begun p = exit.exit_of p.setup.processors p.me (desks_held p.held) (is_elected p.setup.policy)
+
 -- at this row: the part that begins with it, or the row by itself
 abbrev pub go_on : Row → Processor → Processor
 go_on row.LookAtSource p = record p { part = Entering (entry.entry_of p.setup.processors p.setup.policy p.me) }
 go_on row.LookAtExcept p = record p { part = Gathering (gather.gather_of p.setup.processors p.setup.t1 p.setup.t2 p.me) }
-go_on row.MarkInsync p = record p { part = Closing (close.close_of p.setup.processors p.me (desks_held p.held) (is_relaxed p.setup.mode)) }
+go_on row.MarkInsync p = record p { part = Closing (close_begun p) }
 go_on (row.AwaitInside looks) p = record p { part = Reporting (report.report_of p.setup.processors p.setup.t1 p.setup.t2 p.me) }
 go_on r p = between r p
 
 -- the way out of the others begins
 abbrev pub begin_exit : Processor → Processor
-begin_exit p = record p { part = Exiting (exit.exit_of p.setup.processors p.me (desks_held p.held) (is_elected p.setup.policy)) }
+begin_exit p = record p { part = Exiting (exit_begun p) }
 
 -- after all its visits a processor turns its signal off
 abbrev pub to_await : Processor → Row
@@ -126,16 +134,37 @@ to_jobs from p = row_or row.CollectJob (after_jobs p.setup.mode) (next_below p.s
 
 -- SERVING
 
--- serving goes on with the row that the session has told: its need, and the desk that it raises has its job. Where nothing is left
--- to serve, the jobs are collected
-abbrev pub with_need : Need → Session → Processor → Processor
-with_need need.Finished s p = go_on (to_jobs 0 (record p { chair = Some s })) (record p { chair = Some s })
-with_need n s p = record p { part = Serving; chair = Some s; held = handed_as s.told p.held }
+-- there is a need, of a processor of the platform if it names one
+abbrev pub is_at_need : ℕ → Need → Bool
+is_at_need processors need.Look = true
+is_at_need processors (need.ClaimPresent c) = nat_lt c processors
+is_at_need processors (need.ClaimBusy c) = nat_lt c processors
+is_at_need processors (need.AwaitBusy c) = nat_lt c processors
+is_at_need processors (need.PutBusy c) = nat_lt c processors
+is_at_need processors (need.RaiseRun c) = nat_lt c processors
+is_at_need processors need.Finished = false
+
+-- and the desk whose register it is for is held
+abbrev pub can_serve : ℕ → ServerRow → List (Option Desk) → Bool
+can_serve processors told held = is_at_need processors (need_as told) && is_at_hand told held
+
+-- Serving goes on where the session has a need. Where nothing is left to serve, the jobs are collected.
+abbrev pub with_need : Bool → Processor → Processor
+with_need true p = record p { part = Serving }
+with_need false p = go_on (to_jobs 0 p) p
+
+-- the session tells its next need, and the desk that it raises has its job then
+abbrev pub told_need : Session → Processor → Processor
+told_need s p = with_need (can_serve p.setup.processors s.told (handed_as s.told p.held)) (record p { chair = Some s; held = handed_as s.told p.held })
 
 abbrev pub serve_on : Session → Processor → Processor
-serve_on s p = with_need (need_as (told_on p.held s).told) (told_on p.held s) p
+serve_on s p = told_need (told_on p.held s) p
 
 -- a processor without the chair, as there is none, serves nothing
+abbrev pub served : Option Session → Processor → Processor
+served None p = p
+served (Some s) p = serve_on s p
+
 abbrev pub begin_serving : Option Session → Processor → Processor
 begin_serving None p = go_on (after_jobs p.setup.mode) p
 begin_serving (Some s) p = serve_on (begun_session p.me p.wave s) p
@@ -167,15 +196,19 @@ taken_serving (Some s) p found =
 
 -- ENTERING, WORKING AND RESUMING
 
-abbrev pub entered_desk : Processor → Desk → Desk
-entered_desk p desk =
-    record desk { image = saved p.registers (cause_of p.setup.causes p.me (p.visits + 1)) desk.image }
+-- a desk into whose image registers were saved
+abbrev pub desk_saved : Registers → Cause → Desk → Desk
+desk_saved registers cause desk = record desk { image = saved registers cause desk.image }
+
+-- the cause of the next visit of a processor
+abbrev pub next_cause : Processor → Cause
+next_cause p = cause_of p.setup.causes p.me (p.visits + 1)
 
 -- a visit begins: the registers are saved into the image on the processor's own desk, with the cause of the visit
 abbrev pub entered : Processor → Processor
 entered p =
     go_on row.LookAtSource
-    (record p { visits = p.visits + 1; held = slice_set p.held p.me (option_map (entered_desk p) (own_desk p)) })
+    (record p { visits = p.visits + 1; held = slice_set p.held p.me (option_map (desk_saved p.registers (next_cause p)) (own_desk p)) })
 
 -- the label of a job that was run
 abbrev pub job_label : ℕ → Option (ℕ × Status) → Label
@@ -191,30 +224,35 @@ abbrev pub resume_label : Option Desk → Label
 resume_label None = say.Resume Next
 resume_label (Some desk) = say.Resume (after desk.image)
 
--- it loads its registers from that image
-abbrev pub resumed_from : Option Desk → Processor → Processor
-resumed_from None p = p
-resumed_from (Some desk) p = record p { registers = loaded desk.image; last = desk.image }
+-- it loads its registers from that image, and waits for the next interrupt
+abbrev pub resumed : Option Desk → Processor → Processor
+resumed None p = between (to_await p) p
+resumed (Some desk) p = record p { part = Between (to_await p); registers = loaded desk.image; last = desk.image }
+
+-- an AP that has its desk back runs the job on it, or was released
+abbrev pub work_row : Bool → Row
+work_row true = row.GiveDeskBack
+work_row false = row.TellReleased
 
 -- ROWS
 
--- what a processor wants at a row between the parts
-abbrev pub want_at : Row → Processor → Want
-want_at row.AwaitSmi p = wants (Pend p.me) TakeSmi
-want_at row.SwitchOff p = wants (Pend p.me) (Put OFF)
-want_at row.MarkInside p = wants Inside (Put 1)
-want_at row.TakeSource p = wants Source (Put 0)
-want_at (row.CollectJob cpu) p = want.Access (Busy cpu) (Await 2 0) (Take cpu)
-want_at row.LeaveInside p = wants Inside (Put 0)
-want_at row.AwaitRelease p = want.Access (Run p.me) Down (Take p.me)
-want_at row.GiveDeskBack p = want.Access (Busy p.me) (Put 2) (Give p.me)
-want_at row.TellReleased p = wants (Run p.bsp) Up
-want_at row.AwaitDismissal p = wants (Run p.me) Down
-want_at row.WithdrawReport p = wants (Present p.me) (Put 0)
-want_at row.TellDismissed p = wants (Run p.bsp) Up
-want_at row.AwaitSessionEnd p = wants Insync (Await 0 0)
-want_at row.ClearSignal p = wants (Pend p.me) ClearSmi
-want_at _ p = want.Off
+-- what a processor wants at a row between the parts, and as an AP of that BSP
+abbrev pub want_at : Row → ℕ → ℕ → Want
+want_at row.AwaitSmi me bsp = wants (Pend me) TakeSmi
+want_at row.SwitchOff me bsp = wants (Pend me) (Put OFF)
+want_at row.MarkInside me bsp = wants Inside (Put 1)
+want_at row.TakeSource me bsp = wants Source (Put 0)
+want_at (row.CollectJob cpu) me bsp = want.Access (Busy cpu) (Await 2 0) (Take cpu)
+want_at row.LeaveInside me bsp = wants Inside (Put 0)
+want_at row.AwaitRelease me bsp = want.Access (Run me) Down (Take me)
+want_at row.GiveDeskBack me bsp = want.Access (Busy me) (Put 2) (Give me)
+want_at row.TellReleased me bsp = wants (Run bsp) Up
+want_at row.AwaitDismissal me bsp = wants (Run me) Down
+want_at row.WithdrawReport me bsp = wants (Present me) (Put 0)
+want_at row.TellDismissed me bsp = wants (Run bsp) Up
+want_at row.AwaitSessionEnd me bsp = wants Insync (Await 0 0)
+want_at row.ClearSignal me bsp = wants (Pend me) ClearSmi
+want_at _ me bsp = want.Off
 
 -- what the event at such a row says by the number found, and the processor after it
 abbrev pub taken_at : Row → Processor → ℕ → Taken Processor
@@ -226,18 +264,21 @@ taken_at (row.CollectJob cpu) p found =
     says (say.Collect cpu) (go_on (to_jobs (cpu + 1) p) (record p { held = taken_off cpu p.held }))
 taken_at row.LeaveInside p found = says say.Done (begin_exit p)
 taken_at row.AwaitRelease p found =
-    says say.Silent (between (if job_to_run p.setup (own_desk p) then row.GiveDeskBack else row.TellReleased) p)
+    says say.Silent (between (work_row (job_to_run p.setup (own_desk p))) p)
 taken_at row.GiveDeskBack p found = says (ran_label p.ran) (between row.AwaitRelease (record p { ran = None }))
 taken_at row.TellReleased p found = says say.Silent (between row.AwaitDismissal p)
 taken_at row.AwaitDismissal p found = says say.Silent (between row.WithdrawReport p)
 taken_at row.WithdrawReport p found = says say.Depart (between row.TellDismissed p)
 taken_at row.TellDismissed p found = says say.Silent (between row.AwaitSessionEnd p)
 taken_at row.AwaitSessionEnd p found = says say.Silent (between row.ClearSignal p)
-taken_at row.ClearSignal p found =
-    says (resume_label (own_desk p)) (between (to_await p) (resumed_from (own_desk p) p))
+taken_at row.ClearSignal p found = says (resume_label (own_desk p)) (resumed (own_desk p) p)
 taken_at _ p found = says say.Silent p
 
 -- PARTS
+
+abbrev pub is_off_part : Part → Bool
+is_off_part Off = true
+is_off_part _ = false
 
 -- where a part has ended, the processor goes on at the row that comes next
 abbrev pub left_to : Option Row → Processor → Processor
@@ -268,7 +309,7 @@ report_taken t p =
 
 -- what a processor wants
 abbrev pub want_in : Part → Processor → Want
-want_in (Between r) p = want_at r p
+want_in (Between r) p = want_at r p.me p.bsp
 want_in (Entering e) p = entry.want_of e.row e
 want_in (Gathering g) p = gather.want_of g.row g
 want_in (Closing c) p = close.want_of c.row c

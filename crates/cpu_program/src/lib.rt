@@ -3,7 +3,19 @@
 #![tactic(auto)]
 
 mod cargo;
+mod chipset;
+mod going;
+mod hands;
+mod laws;
 mod part;
+mod processor;
+mod program;
+mod rows;
+mod state;
+mod taking;
+mod visit;
 
 pub use cargo::Cargo;
+pub use laws::program_laws;
 pub use part::Part;
+pub use program::Program;

@@ -31,12 +31,12 @@ shown : (S : Status) (out : List ℕ) (w k : ℕ) → ((S ≡ Success → ⊥) �
 shown Success out w k h = little_pad 8 0 k out
 shown _ out w k h = ap (λ (xs : List ℕ). little_from 0 8 (xs ++ replicate k 0)) (h (λ q. cc)) ∙ little_pad 8 0 k (replicate w 0) ∙ little_zeros 8 0 w
 
--- a read into the first bytes of 24 zeros
+-- a read into the first bytes of 256 zeros
 pub read_shows : (m : ImageContents) (present : Bool) (id reg w : ℕ) (old out : List ℕ) (S : Status) → old ≡ replicate w 0
     → S ≡ (read_answer m present id reg old).status → out ≡ (read_answer m present id reg old).out → ((S ≡ Success → ⊥) → out ≡ old)
-    → little_number 8 (out ++ drop w (replicate 24 0)) ≡ shown_value (read_answer m present id reg (replicate w 0))
+    → little_number 8 (out ++ drop w (replicate 256 0)) ≡ shown_value (read_answer m present id reg (replicate w 0))
 read_shows m present id reg w old out S e f g h =
-    ap (λ (xs : List ℕ). little_from 0 8 (out ++ xs)) (drop-replicate w 24 0)
-    ∙ shown S out w (24 - w) (λ d. h d ∙ e)
+    ap (λ (xs : List ℕ). little_from 0 8 (out ++ xs)) (drop-replicate w 256 0)
+    ∙ shown S out w (256 - w) (λ d. h d ∙ e)
     ∙ ap (λ (T : Status). value_on T out) (f ∙ ap (λ (xs : List ℕ). (read_answer m present id reg xs).status) e)
     ∙ ap (λ (xs : List ℕ). value_on (read_answer m present id reg (replicate w 0)).status xs) (g ∙ ap (λ (xs : List ℕ). (read_answer m present id reg xs).out) e)

@@ -11,3 +11,12 @@ pub mod Examples
 pub mod Lists
 pub mod Turns
 pub mod Dues
+pub mod RowSteps
+pub mod Changes
+pub mod Room
+pub mod Stack
+pub mod Turned
+pub mod Doing
+pub mod RowFits
+pub mod Going
+pub mod Answered

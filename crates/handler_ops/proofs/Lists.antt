@@ -1,7 +1,8 @@
 -- Loops over lists: the last item of a kind, how many pass, and the handlers that were registered so far.
 use Rattle.std.proofs.Common.{◌≡◌, ◌<◌, ◌≤◌, ◌+◌, ◌++◌, ℕ, suc, Bool, true, false, List, [], ◌∷◌, length, reverse, drop, get_or, Option, Some, None, refl, sym, ap, ◌∙◌, arith, cond, not, inl, inr, add-one}
 use Rattle.std.proofs.Math.Seq.{drop-cons}
-use Rattle.std.proofs.lemmas.List.{reverse-append, drop_all}
+use Rattle.std.proofs.lemmas.List.{reverse-append, drop_all, append-nil}
+use Rattle.std.proofs.lemmas.List.Elements.{filter-append}
 use Rattle.std.proofs.lemmas.Bool.{lt-ltb, le-ltb, cases_lt}
 use Rattle.std.specs.Prelude.{option_map, position, nat_lt}
 use Rattle.std.specs.List.{find, filter, position_or_len}
@@ -121,3 +122,15 @@ last_all p found xs i a = ap (last_from p found) (drop_all i xs a)
 
 pub count_all : {A : Type 0} (p : A → Bool) (xs : List A) (i : ℕ) → length xs ≤ i → length (filter p (drop i xs)) ≡ 0
 count_all p xs i a = ap (λ ys. length (filter p ys)) (drop_all i xs a)
+
+pub filter_reverse : {A : Type 0} (p : A → Bool) (xs : List A) → filter p (reverse xs) ≡ reverse (filter p xs)
+filter_reverse p [] = refl
+filter_reverse p (x ∷ xs) =
+    ap (filter p) (reverse-append (x ∷ []) xs)
+    ∙ filter-append p (reverse xs) (x ∷ [])
+    ∙ ap (λ zs. zs ++ filter p (x ∷ [])) (filter_reverse p xs)
+    ∙ at_test (p x)
+  where
+    at_test : (b : Bool) → reverse (filter p xs) ++ cond b (x ∷ []) [] ≡ reverse (cond b (x ∷ filter p xs) (filter p xs))
+    at_test true = sym (reverse-append (x ∷ []) (filter p xs))
+    at_test false = append-nil _

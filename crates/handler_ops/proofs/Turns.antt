@@ -19,7 +19,7 @@ turn_above kind n above last (x ∷ rs) r h e = at_test (is_turn kind n x) refl 
     at_test true t e rec = let s = eqb-true x.serial n (and_parts _ _ t).0 in omega (arith, h.0, s)
     at_test false t e rec = omega (arith, h.0, rec e)
 
-turn_serial : (kind : HandlerType) (n : ℕ) (rs : List Registration) (r : Registration) → find (is_turn kind n) rs ≡ Some r → r.serial ≡ n
+pub turn_serial : (kind : HandlerType) (n : ℕ) (rs : List Registration) (r : Registration) → find (is_turn kind n) rs ≡ Some r → r.serial ≡ n
 turn_serial kind n [] r e = absurd cc
 turn_serial kind n (x ∷ rs) r e = at_test (is_turn kind n x) refl e (turn_serial kind n rs r)
   where
@@ -28,7 +28,7 @@ turn_serial kind n (x ∷ rs) r e = at_test (is_turn kind n x) refl e (turn_seri
     at_test false t e rec = rec e
 
 -- where a number has its turn it is the next one of the list, and the only one with its number
-turn_found : (kind : HandlerType) (low above last : ℕ) (rs : List Registration) (r : Registration) → IsRising above last rs → find (is_turn kind (low + 1)) rs ≡ Some r
+pub turn_found : (kind : HandlerType) (low above last : ℕ) (rs : List Registration) (r : Registration) → IsRising above last rs → find (is_turn kind (low + 1)) rs ≡ Some r
     → (find (is_on_after kind low) rs ≡ Some r) × (find (has_serial (low + 1)) rs ≡ Some r)
 turn_found kind low above last [] r h e = absurd cc
 turn_found kind low above last (x ∷ rs) r h e = at_test (is_turn kind (low + 1) x) refl e (turn_found kind low x.serial last rs r h.2)
@@ -54,7 +54,7 @@ later_same low s e = elim (cases_lt (low + 1) s) [
 ]
 
 -- where a number has no turn the search goes on behind it
-turn_none : (kind : HandlerType) (low : ℕ) (rs : List Registration) → find (is_turn kind (low + 1)) rs ≡ None → find (is_on_after kind low) rs ≡ find (is_on_after kind (low + 1)) rs
+pub turn_none : (kind : HandlerType) (low : ℕ) (rs : List Registration) → find (is_turn kind (low + 1)) rs ≡ None → find (is_on_after kind low) rs ≡ find (is_on_after kind (low + 1)) rs
 turn_none kind low [] e = refl
 turn_none kind low (x ∷ rs) e = at_test (is_turn kind (low + 1) x) refl e (turn_none kind low rs)
   where
@@ -70,7 +70,7 @@ turn_none kind low (x ∷ rs) e = at_test (is_turn kind (low + 1) x) refl e (tur
         rw (on, rec e) refl
 
 -- nothing at or below the bound is found above it
-none_below : (kind : HandlerType) (bound low : ℕ) (rs : List Registration) → bound ≤ low → manage.at_most bound (option_map (λ r. r.serial) (find (is_on_after kind low) rs)) ≡ None
+pub none_below : (kind : HandlerType) (bound low : ℕ) (rs : List Registration) → bound ≤ low → manage.at_most bound (option_map (λ r. r.serial) (find (is_on_after kind low) rs)) ≡ None
 none_below kind bound low [] h = refl
 none_below kind bound low (x ∷ rs) h = at_test (is_on_after kind low x) refl (none_below kind bound low rs h)
   where

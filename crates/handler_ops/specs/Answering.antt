@@ -1,9 +1,12 @@
 -- What the answer of a need makes of a session and of the desks.
-use Rattle.std.specs.Prelude.{ℕ, ◌≡◌, ◌==◌, true, if◌then◌else◌, slice_set, None, option_map}
+use Rattle.std.specs.Prelude.{ℕ, ◌≡◌, ◌==◌, Bool, true, if◌then◌else◌, slice_set, Option, None, Some, option_map}
 use Rattle.handler_ops.specs.declared.desk.Desk.{Desk}
+use Rattle.handler_ops.specs.declared.desk.Job.{Job}
 use Rattle.handler_ops.specs.declared.row.Row.{Row}
 use Rattle.handler_ops.specs.declared.row.Row.TheVariants as row
-use Rattle.handler_ops.specs.Course.{Desks, Move, desk_of, moved, write_of}
+use Rattle.handler_ops.specs.Course.{Desks, JobDone, Move, desk_of, is_held, moved, write_of}
+use Rattle.handler_ops.specs.Places.{Place}
+use Rattle.handler_ops.specs.Serving.{ran}
 use Rattle.handler_ops.specs.NextRow.{row_of}
 use Rattle.handler_ops.specs.Sessions.{Session, setting_of}
 use Rattle.handler_ops.specs.Told.{step_as}
@@ -11,6 +14,16 @@ use Rattle.handler_ops.specs.Told.{step_as}
 -- the job of a processor is taken off its desk
 abbrev pub without_job : Desk → Desk
 without_job desk = record desk { job = None }
+
+-- the job on a desk
+abbrev pub job_on : Option Desk → Option Job
+job_on None = None
+job_on (Some desk) = desk.job
+
+-- the place where the processor of the job ran it, if it was run
+abbrev pub ran_by : ℕ → Option JobDone → Place → Place
+ran_by c None p = p
+ran_by c (Some d) p = record p { state = ran c d.result d.status p.state }
 
 abbrev pub taken_off : ℕ → Desks → Desks
 taken_off c held = slice_set held c (option_map without_job (desk_of held c))
@@ -46,3 +59,14 @@ answered m held s = record s { course = moved (setting_of s) s.course m held; to
 pub record HasTold (s : Session) : Type 0 where
   pub held : Desks
   pub told : s.told ≡ row_of (setting_of s) held s.course
+
+-- the desk that the row reads or writes is held
+abbrev pub IsAtHand : Row → Desks → Type 0
+IsAtHand (row.Reading c reg width) held = is_held held c ≡ true
+IsAtHand (row.Writing c reg width x) held = is_held held c ≡ true
+IsAtHand _ held = Unit {0}
+
+abbrev pub is_at_hand : Row → Desks → Bool
+is_at_hand (row.Reading c reg width) held = is_held held c
+is_at_hand (row.Writing c reg width x) held = is_held held c
+is_at_hand _ held = true

@@ -12,3 +12,7 @@ pub mod Progresses
 pub mod Told
 pub mod NextRow
 pub mod Answering
+pub mod Bounds
+pub mod Sayings
+pub mod Calling
+pub mod Moves

@@ -77,12 +77,16 @@ abbrev pub session_in : Progress → Row → Session
 session_in p told = record { setup = data_of p.setup; me = p.me; course = course_in p; told = told }
 
 -- a begun operation may still give a job
-abbrev pub begun_jobs : Pending → ℕ
-begun_jobs (pending.Started c) = 1
+abbrev pub begun_jobs : Option Begun → ℕ
+begun_jobs (Some (Started o)) = 1
 begun_jobs _ = 0
 
--- Each processor has a seat, there is room for four walks, and each job was given in a unit.
+-- Each of so many processors has a seat, and each job was given in a unit.
+pub record Goes (processors : ℕ) (p : Place) : Type 0 where
+  pub seats : length p.state.seats ≡ processors
+  pub units : p.state.given + p.state.left + begun_jobs p.begun ≤ 4096
+
+-- and there is room for four walks
 pub record IsGoing (p : Progress) : Type 0 where
-  pub seats : length p.state.seats ≡ p.setup.processors
+  pub goes : Goes p.setup.processors (place_in p)
   pub room : 4 ≤ vec_capacity p.walks
-  pub units : p.state.given + p.state.left + begun_jobs p.pending ≤ 4096

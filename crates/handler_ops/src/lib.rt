@@ -2,14 +2,17 @@
 // and procedures that other processors run. It knows no words and no threads.
 #![tactic(auto)]
 
+mod answering;
 mod desk;
 mod held;
 mod laws;
+mod moving;
 mod need;
 mod procedure;
 mod progress;
 mod reach;
 mod row;
+mod saying;
 mod seat;
 mod server;
 mod state;

@@ -1,6 +1,6 @@
-ghost use Rattle.std.specs.Prelude.{◌≡◌, ◌≤◌, take, replicate, IsSomeAnd, IfSome};
+ghost use Rattle.std.specs.Prelude.{◌≡◌, ◌≤◌, true, take, replicate, IsSomeAnd, IfSome};
 ghost use Rattle.save_state_access.specs.Reading.{read_answer};
-ghost use Rattle.handler_ops.specs.Course.{shown_value};
+ghost use Rattle.handler_ops.specs.Course.{shown_value, write_of};
 ghost use Rattle.handler_ops.specs.Procedures.{read_whole, write_whole, act_on, job_on, desk_with, CanRun};
 
 use crate::desk::{Desk, Job};
@@ -56,9 +56,17 @@ fn put_register(image: &mut Image, reg: u32, number: u64) -> Status
     ensures status { result ≡ (write_whole image.old reg number).status }
     ensures image { image.new ≡ (write_whole image.old reg number).image }
 {
+    let width = own_width(image.kind(), reg);
+    write_number(image, reg, width, number)
+}
+
+// Writes the low bytes of a number, as many as the width. Those above the eighth are 0.
+pub fn write_number(image: &mut Image, reg: u32, width: usize, number: u64) -> Status
+    ensures status { result ≡ (write_of true image.old reg width number).status }
+    ensures image { image.new ≡ (write_of true image.old reg width number).image }
+{
     let mut bytes = [0; 24];
     LittleEndian::write_u64(&mut bytes, number);
-    let width = own_width(image.kind(), reg);
     write_register(image, true, reg, first_bytes(&bytes, width))
 }
 
@@ -70,12 +78,12 @@ fn first_bytes(bytes: &[u8], count: usize) -> &[u8]
 }
 
 // What a read of so many bytes of a register shows: the number in the first 8 of them, or 0, and the status.
-fn read_number(image: &Image, present: bool, id: u64, reg: u32, width: usize) -> (u64, Status)
-    requires { width ≤ 24 }
+pub fn read_number(image: &Image, present: bool, id: u64, reg: u32, width: usize) -> (u64, Status)
+    requires { width ≤ 256 }
     ensures number { result.0 ≡ shown_value (read_answer image.now present id reg (replicate width 0)) }
     ensures status { result.1 ≡ (read_answer image.now present id reg (replicate width 0)).status }
 {
-    let mut bytes = [0; 24];
+    let mut bytes = [0; 256];
     let status = read_register(image, present, id, reg, &mut bytes[..width]);
     (LittleEndian::read_u64(&bytes), status)
 }

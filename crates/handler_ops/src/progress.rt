@@ -1,3 +1,7 @@
+ghost use Rattle.std.specs.Prelude.{IsTrue};
+ghost use Rattle.std.specs.Option.{ForSome};
+ghost use Rattle.handler_ops.specs.Calling.{is_calling};
+
 use crate::state::State;
 use cpu_table::Setup;
 use smi_manage::Manage;
@@ -12,11 +16,12 @@ pub struct Called {
     pub at: usize,
 }
 
-/// An open walk.
+/// An open walk, and which handler of it is being called.
 #[derive(Clone, Copy)]
 pub struct Walk {
     pub manage: Manage,
     pub called: Option<Called>,
+    pub ghost awaits: { ForSome called (λ _. IsTrue (is_calling manage)) },
 }
 
 /// What was begun and has still to be said.

@@ -2,9 +2,10 @@ ghost use Rattle.std.specs.Prelude.{◌≡◌, ◌<◌, ◌≤◌, IfOk, length,
 ghost use Rattle.cpu_table.specs.Data.{data_of};
 ghost use Rattle.handler_ops.specs.declared.seat.Seat.TheVariants.{Free};
 ghost use Rattle.handler_ops.specs.Serving.{seat};
-ghost use Rattle.handler_ops.specs.Course.{need_of, step_of};
+ghost use Rattle.handler_ops.specs.Answering.{is_at_hand, told_on, HasTold, IsAtHand, move_as, answered, kept_as};
+ghost use Rattle.handler_ops.specs.Course.{need_of, label_of};
 ghost use Rattle.handler_ops.specs.Sessions.{first_session, begun_session, setting_of, job_number, registered_if, registrations_of, pool_at_first};
-ghost use Rattle.handler_ops.specs.Told.{step_as, need_as, handed_as, given_job, handed};
+ghost use Rattle.handler_ops.specs.Told.{need_as, handed_as, given_job};
 
 use crate::desk::Job;
 use crate::held::{Desks, Held};
@@ -89,17 +90,52 @@ impl Server {
 
     /// The next access, or `Finished` where serving is over. Where a processor is given a job, its desk has it then. It is
     /// called after `begin`, and again once the need before, other than `Finished`, was answered.
-    #[tactic(auto, using(crate::proofs::Dues::need_is, crate::proofs::Dues::handed_is))]
     pub fn next(&mut self, held: &mut Held) -> Need
         ensures need { result ≡ need_of (setting_of self.old) held.old.desks self.old.course }
-        ensures told { step_as (setting_of self.old) self.old.course.place.state self.new.told ≡ step_of (setting_of self.old) held.old.desks self.old.course }
-        ensures stays { self.new ≡ record self.old { told = self.new.told } }
-        ensures desks { held.new.desks ≡ handed (step_of (setting_of self.old) held.old.desks self.old.course) held.old.desks }
+        ensures told { result ≡ need_as self.new.told }
+        ensures row { self.new ≡ told_on held.old.desks self.old }
+        ensures handed { held.new.desks ≡ handed_as self.new.told held.old.desks }
     {
         let row = self.progress.row(&held.desks);
         give_by(row, &mut held.desks);
         self.told = row;
         need_of(row)
+    }
+
+    /// What was found by the access that `next` or `need` asked for: the number that the word held, and the desks that are
+    /// held after the access. It gives the event's label, `Silent` where nothing is said, and the need is answered then.
+    ///
+    /// The last need isn't `Finished` and is unanswered. `held` has the desk that the access took, hasn't the one that it gave,
+    /// and has the one whose register a look is for. A desk that was taken on a job's word has that job, done. A write
+    /// changes the image at hand, and the job of a desk that came is taken off it.
+    pub fn answer(&mut self, found: u32, held: &mut Held) -> Label
+        requires told { HasTold self.old }
+        requires at_hand { IsAtHand self.old.told held.old.desks }
+        ensures label { result ≡ label_of (move_as self.old found held.old.desks) }
+        ensures after { self.new ≡ answered (move_as self.old found held.old.desks) held.old.desks self.old }
+        ensures desks { held.new.desks ≡ kept_as self.old.told found held.old.desks }
+    {
+        let told = self.told;
+        self.told = Row::Finished;
+        self.progress.answer(told, found, &mut held.desks)
+    }
+
+    /// The access that is wanted while a need is unanswered. `Finished` before the first `next` of a session, after an answer
+    /// and where serving is over.
+    pub fn need(&self) -> Need
+        ensures { result ≡ need_as self.now.told }
+    {
+        need_of(self.told)
+    }
+
+    /// The desk whose register the need looks at is held; so it is where the need is another one.
+    pub fn is_at_hand(&self, held: &Desks) -> bool
+        ensures { result ≡ is_at_hand self.now.told held.now }
+    {
+        match self.told {
+            Row::Reading { cpu, .. } | Row::Writing { cpu, .. } => held.is_held(cpu),
+            _ => true,
+        }
     }
 
     /// How many processors the platform has.

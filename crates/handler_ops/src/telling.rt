@@ -1,18 +1,20 @@
-ghost use Rattle.std.specs.Prelude.{◌≡◌, ◌<◌, ◌≤◌, ◌+◌, ◌-◌, IfSome, MatchOption, None, [], ◌∷◌, position, length, replicate, drop, take, slice_get, slice_index_or, option_copied, option_map, unwrap_or, false};
+ghost use Rattle.std.specs.Prelude.{◌≡◌, ◌<◌, ◌≤◌, ◌+◌, ◌-◌, ◌^◌, IfSome, IsSome, MatchOption, None, [], ◌∷◌, position, length, replicate, drop, take, slice_get, slice_index_or, option_copied, option_map, unwrap_or, true, false};
 ghost use Rattle.cpu_table.specs.Ranges.{same_text};
 ghost use Rattle.handler_registry.specs.Registrations.{is_full, is_live};
 ghost use Rattle.save_state_access.specs.Reading.{read_answer};
 ghost use Rattle.sync_words.specs.declared.label.Label.TheVariants as say;
 ghost use Rattle.handler_ops.specs.declared.progress.Pending.TheVariants as pending;
-ghost use Rattle.handler_ops.specs.Serving.{seat, token_of};
+ghost use Rattle.sync_words.specs.declared.label.StartRefusal.TheVariants as cause;
+ghost use Rattle.handler_ops.specs.declared.row.Row.TheVariants as row;
+ghost use Rattle.handler_ops.specs.Serving.{seat, token_of, number};
 ghost use Rattle.handler_ops.specs.Operations.{register_of, procedure_place, unregister_status};
 ghost use Rattle.handler_ops.specs.Forms.{status_of, operations_of};
 ghost use Rattle.handler_ops.specs.Beginning.{walks_of};
 ghost use Rattle.handler_ops.specs.Places as begun;
 ghost use Rattle.handler_ops.specs.Places.{levels_left};
-ghost use Rattle.handler_ops.specs.Course.{reach, has_job, is_held, reading, writing, first_cause, by_start_rule, starting, checking, waiting, read_label, write_label, write_of, blank, operation_step, register_label, open_label, due_turns, due_in_call, due_in_walks, due_step, step_of};
+ghost use Rattle.handler_ops.specs.Course.{reach, has_job, is_held, first_cause, read_label, write_label, write_of, blank, register_label, open_label, due_turns, due_in_call, due_in_walks};
 ghost use Rattle.handler_ops.specs.Progresses.{setting_in, program_in, place_in, course_in, walk_of, walks_in, call_of, begun_in, turns_of, first_turn};
-ghost use Rattle.handler_ops.specs.Told.{step_as};
+ghost use Rattle.handler_ops.specs.NextRow.{reading_row, writing_row, start_row, starting_row, checking_row, waiting_row, operation_row, due_row, row_of};
 
 use crate::held::Desks;
 use crate::progress::{Called, MOST_LEVELS, Pending, Progress, Walk};
@@ -20,7 +22,7 @@ use crate::reach::Reach;
 use crate::row::Row;
 use crate::seat::Seat;
 use crate::token::{MOST_TOKENS, TokenState};
-use cpu_table::{OpDef, ProcedureDef, Text, Wave};
+use cpu_table::{OpDef, Operand, ProcedureDef, Text, Wave};
 use handler_registry::Registry;
 use smi_manage::Manage;
 use smm_base::{HandlerType, Register, Status};
@@ -32,7 +34,7 @@ fn register_of(reg: u32) -> Register
     Register::numbered(reg).unwrap_or(Register::Rax)
 }
 
-fn read_label(cpu: u16, reg: u32, width: u8, value: u64, status: Status) -> Label
+pub fn read_label(cpu: u16, reg: u32, width: u8, value: u64, status: Status) -> Label
     ensures { result ≡ read_label cpu reg width value status }
 {
     Label::Read {
@@ -44,7 +46,7 @@ fn read_label(cpu: u16, reg: u32, width: u8, value: u64, status: Status) -> Labe
     }
 }
 
-fn write_label(cpu: u16, reg: u32, width: u8, value: u64, status: Status) -> Label
+pub fn write_label(cpu: u16, reg: u32, width: u8, value: u64, status: Status) -> Label
     ensures { result ≡ write_label cpu reg width value status }
 {
     Label::Write {
@@ -126,7 +128,7 @@ fn position_of(procedures: &[ProcedureDef], name: &str) -> Option<usize>
 impl Progress {
     /// The id of a processor, or 0 where the platform hasn't the processor.
     #[tactic(auto, using(crate::proofs::Dues::index_is))]
-    fn id_of(&self, c: u16) -> u64
+    pub fn id_of(&self, c: u16) -> u64
         ensures { result ≡ slice_index_or (setting_in self.now).ids c 0 }
     {
         self.setup.ids.id_of(c).unwrap_or(0)
@@ -148,7 +150,7 @@ impl Progress {
     }
 
     fn reading(&self, held: &Desks, cpu: u16, reg: u32, width: u8) -> Row
-        ensures { step_as (setting_in self.now) self.now.state result ≡ reading (setting_in self.now) held.now self.now.state cpu reg width }
+        ensures { result ≡ reading_row (setting_in self.now) held.now self.now.state cpu reg width }
     {
         match self.reach(held, cpu) {
             Reach::Outside => Row::Looking(read_label(
@@ -171,7 +173,7 @@ impl Progress {
     }
 
     fn writing(&self, held: &Desks, cpu: u16, reg: u32, width: u8, value: u64) -> Row
-        ensures { step_as (setting_in self.now) self.now.state result ≡ writing (setting_in self.now) held.now self.now.state cpu reg width value }
+        ensures { result ≡ writing_row (setting_in self.now) held.now self.now.state cpu reg width value }
     {
         match self.reach(held, cpu) {
             Reach::Outside => Row::Looking(write_label(
@@ -220,8 +222,8 @@ impl Progress {
     /// The start rule, where no cause refuses.
     fn started(&self, held: &Desks, cpu: u16, place: Option<u16>, arg: u64, collect: Row) -> Row
         requires { self.now.state.given < 4294967295 }
-        ensures { step_as (setting_in self.now) self.now.state result ≡ by_start_rule None (has_job (seat self.now.state cpu)) (is_held held.now cpu) self.now.marked cpu
-            (step_as (setting_in self.now) self.now.state collect) (say.Start cpu (self.now.state.given + 1) (unwrap_or place 0) arg) }
+        ensures { result ≡ start_row None (has_job (seat self.now.state cpu)) (is_held held.now cpu) self.now.marked cpu
+            collect (say.Start cpu (self.now.state.given + 1) (unwrap_or place 0) arg) }
     {
         if has_job(self.state.seat(cpu)) {
             collect
@@ -258,7 +260,7 @@ impl Progress {
         collect: Row,
     ) -> Row
         requires { self.now.state.given < 4294967295 }
-        ensures { step_as (setting_in self.now) self.now.state result ≡ starting (setting_in self.now) held.now self.now.state self.now.marked with_token cpu place arg (step_as (setting_in self.now) self.now.state collect) }
+        ensures { result ≡ starting_row (setting_in self.now) held.now self.now.state self.now.marked with_token cpu place arg collect }
     {
         match self.first_cause(with_token, cpu, place) {
             Some(cause) => Row::Looking(Label::Refuse { cpu, cause }),
@@ -267,7 +269,7 @@ impl Progress {
     }
 
     fn checking(&self, job: u64) -> Row
-        ensures { step_as (setting_in self.now) self.now.state result ≡ checking (token_of self.now.state job) job }
+        ensures { result ≡ checking_row (token_of self.now.state job) job }
     {
         match self.state.token_of(job) {
             TokenState::NotOut => Row::Looking(Label::Check {
@@ -289,7 +291,7 @@ impl Progress {
     }
 
     fn waiting(&self, job: u64) -> Row
-        ensures { step_as (setting_in self.now) self.now.state result ≡ waiting (token_of self.now.state job) job }
+        ensures { result ≡ waiting_row (token_of self.now.state job) job }
     {
         match self.state.token_of(job) {
             TokenState::NotOut => Row::Looking(Label::Wait {
@@ -324,9 +326,10 @@ impl Progress {
         }
     }
 
-    fn unregistering(&self, handle: u64) -> Label
-        ensures { result ≡ say.Unregister handle (unregister_status (is_live handle self.now.state.registrations)) }
+    fn unregistering(&self, handle: Operand) -> Label
+        ensures { result ≡ say.Unregister (number self.now.state handle) (unregister_status (is_live (number self.now.state handle) self.now.state.registrations)) }
     {
+        let handle = self.state.number(handle);
         if self.state.is_live(handle) {
             Label::Unregister {
                 handle,
@@ -340,16 +343,58 @@ impl Progress {
         }
     }
 
+    /// The row of a start that waits: the result of the processor's job goes to a variable.
+    fn start_row(&self, held: &Desks, cpu: u16, procedure: &Text, arg: Operand) -> Row
+        requires { self.now.state.given < 4294967295 }
+        ensures { result ≡ starting_row (setting_in self.now) held.now self.now.state self.now.marked false cpu
+            (procedure_place self.now.setup.procedures procedure.now) (number self.now.state arg) (row.AwaitingJob cpu) }
+    {
+        self.starting(
+            held,
+            false,
+            cpu,
+            self.place_of(procedure),
+            self.state.number(arg),
+            Row::AwaitingJob(cpu),
+        )
+    }
+
+    /// The row of a start that gives a token.
+    fn launch_row(&self, held: &Desks, cpu: u16, procedure: &Text, arg: Operand) -> Row
+        requires { self.now.state.given < 4294967295 }
+        ensures { result ≡ starting_row (setting_in self.now) held.now self.now.state self.now.marked true cpu
+            (procedure_place self.now.setup.procedures procedure.now) (number self.now.state arg) (row.ClaimingJob cpu (say.Refuse cpu cause.Busy)) }
+    {
+        let busy = Label::Refuse {
+            cpu,
+            cause: StartRefusal::Busy,
+        };
+        self.starting(
+            held,
+            true,
+            cpu,
+            self.place_of(procedure),
+            self.state.number(arg),
+            Row::ClaimingJob(cpu, busy),
+        )
+    }
+
+    fn setting(&self, variable: u8, value: Operand) -> Label
+        ensures { result ≡ say.Set variable (number self.now.state value) }
+    {
+        Label::Set {
+            variable,
+            value: self.state.number(value),
+        }
+    }
+
     /// The row of an operation that has begun, where so many levels are left.
     fn operation_row(&self, held: &Desks, levels: usize, op: &OpDef) -> Row
         requires { self.now.state.given < 4294967295 }
-        ensures { step_as (setting_in self.now) self.now.state result ≡ operation_step (setting_in self.now) held.now self.now.state self.now.marked levels op.now }
+        ensures { result ≡ operation_row (setting_in self.now) held.now self.now.state self.now.marked levels op.now }
     {
         match op {
-            OpDef::Set { into, value } => Row::Looking(Label::Set {
-                variable: *into,
-                value: self.state.number(*value),
-            }),
+            OpDef::Set { into, value } => Row::Looking(self.setting(*into, *value)),
             OpDef::Read {
                 cpu,
                 reg,
@@ -367,41 +412,19 @@ impl Progress {
                 procedure,
                 arg,
                 ..
-            } => self.starting(
-                held,
-                false,
-                *cpu,
-                self.place_of(procedure),
-                self.state.number(*arg),
-                Row::AwaitingJob(*cpu),
-            ),
+            } => self.start_row(held, *cpu, procedure, *arg),
             OpDef::Launch {
                 cpu,
                 procedure,
                 arg,
                 ..
-            } => self.starting(
-                held,
-                true,
-                *cpu,
-                self.place_of(procedure),
-                self.state.number(*arg),
-                Row::ClaimingJob(
-                    *cpu,
-                    Label::Refuse {
-                        cpu: *cpu,
-                        cause: StartRefusal::Busy,
-                    },
-                ),
-            ),
+            } => self.launch_row(held, *cpu, procedure, *arg),
             OpDef::Check { token } => self.checking(self.state.number(*token)),
             OpDef::Wait { token, .. } => self.waiting(self.state.number(*token)),
             OpDef::Alloc { size, .. } => Row::Allocating(self.state.number(*size)),
             OpDef::Free { place } => Row::Freeing(self.state.number(*place)),
             OpDef::Register { handler, .. } => Row::Looking(self.registering(*handler)),
-            OpDef::Unregister { handle } => Row::Looking(self.unregistering(
-                self.state.number(*handle),
-            )),
+            OpDef::Unregister { handle } => Row::Looking(self.unregistering(*handle)),
             OpDef::Manage { kind } => Row::Looking(open_label(levels, *kind)),
         }
     }
@@ -427,12 +450,14 @@ fn next_handler(manage: Manage, registry: &Registry) -> Option<u16>
 }
 
 fn kind_at(kinds: &[HandlerType], place: usize) -> Option<HandlerType>
-    ensures { MatchOption result (drop place kinds.now ≡ []) (λ kind. drop place kinds.now ≡ kind ∷ drop (place + 1) kinds.now) }
+    ensures some { IsSome result → place + 1 < 2 ^ 64 }
+    ensures next { MatchOption result (drop place kinds.now ≡ []) (λ kind. drop place kinds.now ≡ kind ∷ drop (place + 1) kinds.now) }
 {
     kinds.get(place).copied()
 }
 
 fn operation_at(ops: &[OpDef], place: usize) -> Option<&OpDef>
+    ensures some { IsSome result → place + 1 < 2 ^ 64 }
     ensures next { MatchOption result (drop place ops.now ≡ []) (λ o. drop place ops.now ≡ o.now ∷ drop (place + 1) ops.now) }
     ensures value { option_copied result ≡ slice_get ops.now place }
 {
@@ -454,35 +479,38 @@ fn walks_of(waves: &[Wave], wave: u32) -> &[HandlerType]
 
 impl Progress {
     /// The walk that was opened last.
-    fn top(&self) -> Option<Walk>
-        ensures { MatchOption result ((place_in self.now).walks ≡ []) (λ w. (place_in self.now).walks ≡ walk_of (program_in self.now) w ∷ walks_in (program_in self.now) (take (length self.now.walks.items - 1) self.now.walks.items)) }
+    pub fn top(&self) -> Option<Walk>
+        ensures some { IsSome result → 0 < length self.now.walks.items }
+        ensures walks { MatchOption result ((place_in self.now).walks ≡ []) (λ w. (place_in self.now).walks ≡ walk_of (program_in self.now) w ∷ walks_in (program_in self.now) (take (length self.now.walks.items - 1) self.now.walks.items)) }
     {
         self.walks.last().copied()
     }
 
     /// How many levels may be opened above the open walks.
     #[tactic(auto, using(crate::proofs::Dues::levels_are))]
-    fn levels(&self) -> usize
-        ensures { result ≡ levels_left (place_in self.now).walks }
+    pub fn levels(&self) -> usize
+        ensures left { result ≡ levels_left (place_in self.now).walks }
+        ensures few { result ≡ 4 - length self.now.walks.items }
     {
         MOST_LEVELS.saturating_sub(self.walks.len())
     }
 
     /// The next walk of the wave.
-    fn next_kind(&self) -> Option<HandlerType>
-        ensures { MatchOption result ((place_in self.now).kinds ≡ []) (λ kind. (place_in self.now).kinds ≡ kind ∷ drop (self.now.entry + 1) (walks_of self.now.setup.waves self.now.wave)) }
+    pub fn next_kind(&self) -> Option<HandlerType>
+        ensures some { IsSome result → self.now.entry + 1 < 2 ^ 64 }
+        ensures kinds { MatchOption result ((place_in self.now).kinds ≡ []) (λ kind. (place_in self.now).kinds ≡ kind ∷ drop (self.now.entry + 1) (walks_of self.now.setup.waves self.now.wave)) }
     {
         kind_at(self.kinds(), self.entry)
     }
 
     /// The walks of the wave that is served.
-    fn kinds(&self) -> &[HandlerType]
+    pub fn kinds(&self) -> &[HandlerType]
         ensures { result.now ≡ walks_of self.now.setup.waves self.now.wave }
     {
         walks_of(self.setup.waves.as_slice(), self.wave)
     }
 
-    fn status_of(&self, place: u16) -> Status
+    pub fn status_of(&self, place: u16) -> Status
         ensures { result ≡ status_of (program_in self.now) place }
     {
         match self.setup.handlers.as_slice().get(usize::from(place)) {
@@ -501,9 +529,11 @@ impl Progress {
     }
 
     /// The next operation of a handler that is being called.
-    fn operation(&self, called: Called) -> Option<&OpDef>
+    pub fn operation(&self, called: Called) -> Option<&OpDef>
+        ensures some { IsSome result → called.at + 1 < 2 ^ 64 }
         ensures next { MatchOption result ((call_of (program_in self.now) called).ops ≡ []) (λ o. (call_of (program_in self.now) called).ops ≡ o.now ∷ drop (called.at + 1) (operations_of (program_in self.now) called.handler)) }
         ensures started { begun_in (program_in self.now) (pending.Started called) ≡ option_map begun.Started (option_copied result) }
+        ensures value { option_copied result ≡ slice_get (operations_of (program_in self.now) called.handler) called.at }
     {
         operation_at(self.operations_of(called.handler), called.at)
     }
@@ -512,7 +542,7 @@ impl Progress {
     #[tactic(auto, using(crate::proofs::Dues::left_none, crate::proofs::Dues::left_some))]
     fn call_row(&self, held: &Desks, called: Called) -> Row
         requires { self.now.state.given < 4294967295 }
-        ensures { step_as (setting_in self.now) self.now.state result ≡ due_step (setting_in self.now) held.now self.now.state self.now.marked
+        ensures { result ≡ due_row (setting_in self.now) held.now self.now.state self.now.marked
             (due_in_call (program_in self.now) (levels_left (place_in self.now).walks) called.handler (call_of (program_in self.now) called).ops self.now.state.left) }
     {
         match self.operation(called) {
@@ -533,7 +563,7 @@ impl Progress {
     /// The row where a walk is between two calls.
     #[tactic(auto, using(crate::proofs::Dues::due_turns_is, crate::proofs::Dues::left_none, crate::proofs::Dues::left_some))]
     fn turn_row(&self, held: &Desks, manage: Manage) -> Row
-        ensures { step_as (setting_in self.now) self.now.state result ≡ due_step (setting_in self.now) held.now self.now.state self.now.marked (due_turns manage.kind (turns_of manage) manage.running self.now.state.registrations self.now.state.left) }
+        ensures { result ≡ due_row (setting_in self.now) held.now self.now.state self.now.marked (due_turns manage.kind (turns_of manage) manage.running self.now.state.registrations self.now.state.left) }
     {
         match next_handler(manage, self.state.registrations()) {
             None => Row::Looking(Label::Answer(manage.end())),
@@ -550,7 +580,7 @@ impl Progress {
     /// The row where no walk is open.
     #[tactic(auto, using(crate::proofs::Dues::left_none, crate::proofs::Dues::left_some))]
     fn entry_row(&self, held: &Desks) -> Row
-        ensures { step_as (setting_in self.now) self.now.state result ≡ due_step (setting_in self.now) held.now self.now.state self.now.marked (due_in_walks (program_in self.now) (place_in self.now).kinds [] self.now.state.registrations self.now.state.left) }
+        ensures { result ≡ due_row (setting_in self.now) held.now self.now.state self.now.marked (due_in_walks (program_in self.now) (place_in self.now).kinds [] self.now.state.registrations self.now.state.left) }
     {
         match self.next_kind() {
             None => Row::Finished,
@@ -569,7 +599,7 @@ impl Progress {
     /// The row where nothing that was begun is still to be said.
     fn open_row(&self, held: &Desks) -> Row
         requires { self.now.state.given < 4294967295 }
-        ensures { step_as (setting_in self.now) self.now.state result ≡ due_step (setting_in self.now) held.now self.now.state self.now.marked
+        ensures { result ≡ due_row (setting_in self.now) held.now self.now.state self.now.marked
             (due_in_walks (program_in self.now) (place_in self.now).kinds (place_in self.now).walks self.now.state.registrations self.now.state.left) }
     {
         match self.top() {
@@ -584,7 +614,7 @@ impl Progress {
     /// The row of the course, with these desks held.
     pub fn row(&self, held: &Desks) -> Row
         requires { self.now.state.given < 4294967295 }
-        ensures { step_as (setting_in self.now) self.now.state result ≡ step_of (setting_in self.now) held.now (course_in self.now) }
+        ensures { result ≡ row_of (setting_in self.now) held.now (course_in self.now) }
     {
         match self.pending {
             Pending::Nothing => self.open_row(held),

@@ -1,5 +1,5 @@
-ghost use Rattle.std.specs.Prelude.{◌≡◌, ◌<◌, ◌≤◌, ◌==◌, ◌∷◌, [], IfOk, Some, cond, length, reverse};
-ghost use Rattle.std.specs.List.{find};
+ghost use Rattle.std.specs.Prelude.{◌≡◌, ◌<◌, ◌≤◌, ◌==◌, ◌∷◌, [], IfOk, Some, cond, length, not, reverse, vec_capacity};
+ghost use Rattle.std.specs.List.{filter, find};
 
 use smm_base::{NoMemory, Status};
 use std::alloc::Global;
@@ -77,12 +77,29 @@ impl Tokens {
         self.tokens.push_reserved(token);
     }
 
+    /// Drops the tokens of this job.
+    #[tactic(auto, using(crate::proofs::Lists::filter_reverse))]
+    pub fn drop_job(&mut self, job: u64)
+        ensures dropped { self.new ≡ filter (λ t. not (t.job == job)) self.old }
+        ensures few { length self.new ≤ length self.old }
+    {
+        remove_job(&mut self.tokens, job);
+    }
+
     /// The first token of this job. None where there is none.
     pub fn of_job(&self, job: u64) -> Option<Token>
         ensures { result ≡ find (λ t. t.job == job) self.now }
     {
         last_of_job(&self.tokens, job)
     }
+}
+
+fn remove_job(tokens: &mut Vec<Token>, job: u64)
+    ensures items { tokens.new.items ≡ filter (λ t. not (t.job == job)) tokens.old.items }
+    ensures capacity { vec_capacity tokens.new ≡ vec_capacity tokens.old }
+    ensures few { length tokens.new.items ≤ length tokens.old.items }
+{
+    tokens.retain(|token| u64::from(token.job) != job);
 }
 
 // The last one of this job.

@@ -14,7 +14,7 @@ use Rattle.handler_registry.specs.Changes.{Change, changed, all_changed, live_at
 use Rattle.handler_registry.specs.Changes.Change.{Register, Unregister}
 
 -- all but those with this serial number
-abbrev others : ℕ → List Registration → List Registration
+abbrev pub others : ℕ → List Registration → List Registration
 others serial rs = without serial_of serial rs
 
 none_found : (serial : ℕ) (rs : List Registration) → find (has_serial serial) (others serial rs) ≡ None

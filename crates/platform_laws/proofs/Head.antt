@@ -1,9 +1,9 @@
 -- The keys of the top table.
-use Rattle.std.proofs.Common.{◌≡◌, ℕ, zero, suc, pos, ◌+◌, ◌-◌, ◌<◌, ◌≤◌, Bool, true, false, not, ◌&&◌, ◌||◌, ◌==◌, List, [], ◌∷◌, ◌++◌, length, Option, Some, None, Ok, Err, refl, ap, sym, subst, ◌∙◌, codes, lt-ltb, if◌then◌else◌, arith}
+use Rattle.std.proofs.Common.{◌≡◌, ℕ, zero, suc, pos, ◌+◌, ◌-◌, ◌<◌, ◌≤◌, Bool, true, false, not, ◌||◌, ◌==◌, List, [], ◌∷◌, ◌++◌, length, Option, Some, None, Ok, Err, refl, ap, sym, subst, ◌∙◌, codes, lt-ltb, if◌then◌else◌, arith}
 use Rattle.std.specs.Prelude.{MatchOption, Result}
 use Rattle.std.specs.List.{list_any, list_all, range_with_len}
 use Rattle.std.specs.Str.{bytes_eq}
-use Rattle.std.proofs.lemmas.Bool.{and_from, ltb-true, ne_eqb, false≢true}
+use Rattle.std.proofs.lemmas.Bool.{and_from, ltb-true, ne_eqb}
 use Rattle.std.proofs.lemmas.List.FromFn.{length-range_with_len}
 use Rattle.toml.specs.Data.{Data, integer, Items, no_items, item, Members}
 use Rattle.smm_base.specs.declared.kinds.MapKind.{MapKind}
@@ -119,7 +119,7 @@ IdFits done id = (is_integer id ≡ true) × (true ≡ true) × (list_any (λ x.
 abbrev pub IdsFit : ℕ → List ℕ → Type 0
 IdsFit n ids = (length ids ≡ n) × (are_distinct (λ a b. a == b) ids ≡ true) × (list_all is_integer ids ≡ true)
 
-id_said : (done : List ℕ) (v : Data) (id : ℕ) → id_after done v ≡ Ok id → IsId v id × IdFits done id
+pub id_said : (done : List ℕ) (v : Data) (id : ℕ) → id_after done v ≡ Ok id → IsId v id × IdFits done id
 id_said done v id is =
     let (x, there, rest) = split (number_value (top key.Ids) 0 greatest v) (λ y. if list_any (λ z. z == y) done then Err (Range (top key.Ids) (pos y)) else Ok y) id is in
     let (says, low, high) = value_said (top key.Ids) 0 greatest v x there in

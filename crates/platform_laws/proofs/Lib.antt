@@ -1,12 +1,17 @@
 mod Readings
+mod Judging
 mod Lists
 mod Words
 mod Operands
 mod Parts
 mod Operations
+mod JudgedParts
 mod Growth
 mod Tables
 mod Names
+mod JudgedTables
 mod Head
 mod Whole
+mod JudgedSetup
 mod Files
+mod Guids

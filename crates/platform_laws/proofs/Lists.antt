@@ -1,5 +1,5 @@
 -- Lists that are read element by element.
-use Rattle.std.proofs.Common.{◌≡◌, ℕ, suc, ◌+◌, ◌≤◌, List, [], ◌∷◌, ◌++◌, length, Ok, refl, ap, sym, ◌∙◌}
+use Rattle.std.proofs.Common.{◌≡◌, suc, List, [], ◌∷◌, ◌++◌, length, Ok, refl, ap, sym, ◌∙◌}
 use Rattle.toml.specs.Data.{Data, Items, no_items, item}
 use Rattle.platform_document.specs.Reading.{Reading, data_list, each}
 use Rattle.platform_laws.specs.Values.{EachSays}

@@ -1,5 +1,5 @@
 -- An operand that is read is the one that is written, and the other way round.
-use Rattle.std.proofs.Common.{◌≡◌, ◌⊎◌, inl, inr, ℕ, ℤ, pos, ◌+◌, ◌<◌, ◌≤◌, Bool, true, false, ◌&&◌, ◌==◌, nat_le, eqb, List, [], ◌∷◌, ◌++◌, length, drop, Option, Some, None, Ok, option_map, codes, refl, ap, sym, subst, ◌∙◌, if◌then◌else◌, arith, le-leb}
+use Rattle.std.proofs.Common.{◌≡◌, inl, inr, ℕ, ℤ, pos, ◌≤◌, Bool, true, false, ◌&&◌, nat_le, eqb, List, [], ◌∷◌, ◌++◌, length, drop, Option, Some, None, Ok, option_map, codes, refl, ap, sym, subst, ◌∙◌, if◌then◌else◌, arith, le-leb}
 use Rattle.std.specs.Char.{is_digit}
 use Rattle.std.specs.List.{list_all, starts_with}
 use Rattle.std.specs.Str.Parse.{digits_value}
@@ -75,7 +75,7 @@ text_said text None None o e h is = absurd (none-some o is)
 text_said text None (Some n) o e h is =
     subst (λ x. IsOperand x (string text) × (is_operand x ≡ true)) (same_Some (Number n) o is) (inr (text, refl, hexadecimal_said text n h), refl)
 
-by_said : (path : Path) (v : Data) (z : Option ℤ) (s : Option (List ℕ)) (o : Operand) → as_integer v ≡ z → as_str v ≡ s → operand_by path z s ≡ Ok o → IsOperand o v × (is_operand o ≡ true)
+pub by_said : (path : Path) (v : Data) (z : Option ℤ) (s : Option (List ℕ)) (o : Operand) → as_integer v ≡ z → as_str v ≡ s → operand_by path z s ≡ Ok o → IsOperand o v × (is_operand o ≡ true)
 by_said path v (Some z) s o e f is =
     let (n, within, rest) = split (number_within path 0 greatest z) (λ k. Ok (Number k)) o is in
     let (same, low, high) = within_said path 0 greatest z n within in
@@ -94,7 +94,7 @@ operand_said path t o is =
 variable_text_read : (n : ℕ) → is_variable n ≡ true → operand_of (variable_text n) ≡ Some (operand.Variable n)
 variable_text_read n small = ap (λ v. words.operand_by v (hexadecimal_of (variable_text n))) (variable_read n small)
 
-value_read : (path : Path) (v : Data) (o : Operand) → IsOperand o v → is_operand o ≡ true → operand_value path v ≡ Ok o
+pub value_read : (path : Path) (v : Data) (o : Operand) → IsOperand o v → is_operand o ≡ true → operand_value path v ≡ Ok o
 value_read path v (Number n) (inl (same, small)) fits =
     ap (operand_value path) same ∙ joined (number_within path 0 greatest (pos n)) (λ k. Ok (Number k)) n (Number n) (within_read path 0 greatest n (omega arith) (omega (arith, small))) refl
 value_read path v (Number n) (inr (text, same, is)) fits = ap (operand_value path) same ∙ of_some (operand_of text) (Word path) (Number n) (hexadecimal_read text n is)

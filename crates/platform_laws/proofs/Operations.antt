@@ -1,5 +1,5 @@
 -- The operations of handlers.
-use Rattle.std.proofs.Common.{◌≡◌, ℕ, true, ◌&&◌, nat_lt, nat_le, List, [], ◌∷◌, length, Some, Ok, refl, ap, sym, subst, ◌∙◌, codes}
+use Rattle.std.proofs.Common.{◌≡◌, ℕ, true, ◌&&◌, nat_lt, nat_le, List, ◌∷◌, length, Some, Ok, refl, ap, sym, subst, ◌∙◌, codes}
 use Rattle.std.specs.List.{list_any}
 use Rattle.std.specs.Str.{bytes_eq}
 use Rattle.std.proofs.lemmas.Bool.{and_parts, and_from}
@@ -20,12 +20,12 @@ use Rattle.platform_document.specs.Reading.{read_then, path_to, text_at, word_at
 use Rattle.platform_document.specs.CommonKeys.{cpu_at, register_at, width_at, into_at, kind_at}
 use Rattle.platform_file.specs.Operations.{handler_at, set_in, read_in, write_in, start_in, launch_in, check_in, wait_in, alloc_in, free_in, register_in, unregister_in, manage_in, operation_by, operation_keys, operation_as, operation_in, operation_after}
 use Rattle.platform_document.specs.Operands.{operand_at}
-use Rattle.platform_laws.specs.Words.{operation_text}
+use Rattle.platform_laws.specs.Words.{operation_text, word_of, word_text}
 use Rattle.platform_laws.specs.Values.{IsTableOf}
 use Rattle.platform_laws.specs.Says.{SaysParts, parts_of, SaysOperation}
 use Rattle.platform_laws.specs.Fits.{names_word}
 use Rattle.platform_laws.proofs.Readings.{split, joined, same_ok, text_said, text_read, word_read, entry_said, entry_read, others_said, others_read}
-use Rattle.platform_laws.proofs.Words.{word_text, operation_word_said, operation_word_read}
+use Rattle.platform_laws.proofs.Words.{operation_word_said, operation_word_read}
 use Rattle.platform_laws.proofs.Operands.{operand_said, operand_read}
 use Rattle.platform_laws.proofs.Parts.{cpu_said, cpu_read, width_said, width_read, reg_said, reg_read, into_said, into_read, kind_at_said, kind_at_read, IsFound, handler_at_said, handler_at_read, word_is}
 
@@ -229,21 +229,6 @@ by_said entries place t word.Free o is = free_said entries place t o is
 by_said entries place t word.Register o is = register_said entries place t o is
 by_said entries place t word.Unregister o is = unregister_said entries place t o is
 by_said entries place t word.Manage o is = manage_said entries place t o is
-
--- the word of an operation
-abbrev word_of : OpDef → OperationWord
-word_of (op.Set into value) = word.Set
-word_of (op.Read cpu reg width into) = word.Read
-word_of (op.Write cpu reg width value) = word.Write
-word_of (op.Start cpu procedure arg into) = word.Start
-word_of (op.Launch cpu procedure arg into) = word.Launch
-word_of (op.Check token) = word.Check
-word_of (op.Wait token into) = word.Wait
-word_of (op.Alloc size into) = word.Alloc
-word_of (op.Free at) = word.Free
-word_of (op.Register at kind into) = word.Register
-word_of (op.Unregister handle) = word.Unregister
-word_of (op.Manage kind) = word.Manage
 
 by_read : (entries : List Data) (place : TablePlace) (t : Members) (o : OpDef) → SaysParts (IsFound entries) t o → op_fits (length entries) o ≡ true → names_word o ≡ true → operation_by entries place t (word_of o) ≡ Ok o
 by_read entries place t (op.Set into value) says fits small = set_read entries place t into value says fits small

@@ -1,5 +1,5 @@
 -- The parts that several operations have.
-use Rattle.std.proofs.Common.{◌≡◌, ℕ, ◌<◌, ◌≤◌, true, nat_lt, nat_le, List, length, Option, Some, Ok, refl, ap, sym, subst, ◌∙◌, codes, le-leb, lt-ltb, arith}
+use Rattle.std.proofs.Common.{◌≡◌, ℕ, true, nat_lt, nat_le, List, length, Option, Some, Ok, refl, ap, sym, subst, ◌∙◌, codes, le-leb, lt-ltb, arith}
 use Rattle.std.proofs.lemmas.Bool.{leb-true}
 use Rattle.std.proofs.lemmas.List.Quantifiers.{position-Some}
 use Rattle.toml.specs.Data.{Data, string, boolean, Members}

@@ -1,5 +1,5 @@
 -- What a reading that succeeds has read, and when it succeeds.
-use Rattle.std.proofs.Common.{◌≡◌, ℕ, ℤ, pos, negsuc, ◌≤◌, Bool, true, false, ◌&&◌, nat_le, List, [], ◌∷◌, ◌++◌, length, Option, Some, None, Ok, Err, option_map, refl, ap, sym, subst, ◌∙◌, if◌then◌else◌, le-leb}
+use Rattle.std.proofs.Common.{◌≡◌, ℕ, ℤ, pos, negsuc, ◌≤◌, Bool, true, false, ◌&&◌, nat_le, List, length, Option, Some, None, Ok, Err, option_map, refl, ap, sym, subst, ◌∙◌, if◌then◌else◌, le-leb}
 use Rattle.std.specs.Prelude.{ok_or, Result}
 use Rattle.std.specs.List.{list_any}
 use Rattle.std.specs.Str.{bytes_eq}

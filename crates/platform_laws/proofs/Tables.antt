@@ -1,5 +1,5 @@
 -- The tables of a platform file but for the top one.
-use Rattle.std.proofs.Common.{◌≡◌, ℕ, pos, ◌+◌, ◌-◌, ◌<◌, ◌≤◌, Bool, true, false, not, ◌&&◌, ◌==◌, nat_lt, nat_le, List, [], ◌∷◌, length, Option, Some, None, Ok, Err, refl, ap, sym, subst, ◌∙◌, codes, le-leb, lt-ltb, IsTrue, if◌then◌else◌, arith}
+use Rattle.std.proofs.Common.{◌≡◌, ℕ, pos, ◌+◌, ◌-◌, ◌≤◌, Bool, true, false, not, ◌&&◌, ◌==◌, nat_lt, nat_le, List, [], ◌∷◌, length, Option, Some, None, Ok, Err, refl, ap, sym, subst, ◌∙◌, codes, le-leb, lt-ltb, IsTrue, if◌then◌else◌, arith}
 use Rattle.std.specs.Prelude.{MatchOption, Result}
 use Rattle.std.specs.List.{list_any, list_all}
 use Rattle.std.proofs.lemmas.Bool.{and_parts, and_from, leb-true, ltb-true, eqb-true, eq-eqb, false≢true}
@@ -287,10 +287,10 @@ instruction_is : (port length kind : ℕ) (length_is_valid : IsTrue (is_io_lengt
     instruction port length kind ≡ Some (record { port = port; length = length; kind = kind; length_is_valid = length_is_valid; kind_is_valid = kind_is_valid })
 instruction_is port length kind length_is_valid kind_is_valid = passing (is_io_length length) length_is_valid _ ∙ passing (is_io_type kind) kind_is_valid _
 
-length_below : (n : ℕ) → is_io_length n ≡ true → n ≤ 255
+pub length_below : (n : ℕ) → is_io_length n ≡ true → n ≤ 255
 length_below n is = grind (arith, nat_tests)
 
-type_below : (n : ℕ) → is_io_type n ≡ true → n ≤ 255
+pub type_below : (n : ℕ) → is_io_type n ≡ true → n ≤ 255
 type_below n is = grind (arith, nat_tests)
 
 -- an I/O instruction that a table says

@@ -1,5 +1,5 @@
 -- A whole document: what is read is what it says, and the other way round.
-use Rattle.std.proofs.Common.{◌≡◌, ℕ, ◌+◌, ◌*◌, ◌<◌, ◌≤◌, Bool, true, false, ◌&&◌, nat_le, List, [], ◌∷◌, ◌++◌, length, Option, Some, None, Ok, refl, ap, sym, subst, ◌∙◌, codes, le-leb, if◌then◌else◌, arith}
+use Rattle.std.proofs.Common.{◌≡◌, ℕ, ◌≤◌, Bool, true, ◌&&◌, nat_le, List, [], ◌++◌, length, Option, Some, None, Ok, refl, ap, sym, subst, ◌∙◌, codes, le-leb, arith}
 use Rattle.std.specs.Prelude.{MatchOption}
 use Rattle.std.specs.List.{list_all}
 use Rattle.std.proofs.lemmas.Bool.{and_parts, and_from, leb-true, false≢true}
@@ -39,7 +39,7 @@ use Rattle.platform_laws.proofs.Tables.{area_said, area_read, entry_wave_said, e
 use Rattle.platform_laws.proofs.Head.{KeysSay, KeysFit, keys_said, keys_are_read, names_known}
 
 -- the areas
-smram_said : (o : Option Data) (s : Option Area) → read_then (optional (table_of (top key.Smram)) o) area_of ≡ Ok s → MatchOption o (s ≡ None) (SaysOption SaysArea s) × (smram_fits s ≡ true)
+pub smram_said : (o : Option Data) (s : Option Area) → read_then (optional (table_of (top key.Smram)) o) area_of ≡ Ok s → MatchOption o (s ≡ None) (SaysOption SaysArea s) × (smram_fits s ≡ true)
 smram_said None s is = subst (λ x. (x ≡ None) × (smram_fits x ≡ true)) (same_ok None s is) (refl, refl)
 smram_said (Some v) s is =
     let (o, listed, rest) = split (read_then (table_of (top key.Smram) v) (λ found. Ok (Some found))) area_of s is in
@@ -199,7 +199,7 @@ causes_read n visits t cs says fits ports =
     says (leb-true (length cs) 4096 few) (each_apart (cause_fits n visits) has_port same_visit cs [] all_fit ports distinct)
 
 -- the top table's lists and other names
-lists_said : (t : Members) (h k : Head) → lists_checked t h ≡ Ok k → (h ≡ k) × HasOnly (names_by h.policy ++ top_names) t
+pub lists_said : (t : Members) (h k : Head) → lists_checked t h ≡ Ok k → (h ≡ k) × HasOnly (names_by h.policy ++ top_names) t
 lists_said t h k is =
     let (smram, smram_is, rest0) = split (smram_at t) (λ smram. read_then (wave_entries h.visits t) (λ waves. read_then (handler_entries t) (λ handlers. read_then (procedure_entries t) (λ procedures. read_then (cause_entries t) (λ causes. and_no_other Top (keys_by h.policy) t h))))) k is in
     let (waves, waves_is, rest1) = split (wave_entries h.visits t) (λ waves. read_then (handler_entries t) (λ handlers. read_then (procedure_entries t) (λ procedures. read_then (cause_entries t) (λ causes. and_no_other Top (keys_by h.policy) t h)))) k rest0 in

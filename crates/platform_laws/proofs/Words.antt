@@ -1,5 +1,5 @@
 -- A word that is read is the one that is written, and the other way round.
-use Rattle.std.proofs.Common.{◌≡◌, ℕ, zero, suc, ◌+◌, ◌<◌, ◌≤◌, Bool, true, false, ◌==◌, List, [], ◌∷◌, Option, Some, None, option_map, codes, cond, refl, ap, sym, subst, ◌∙◌, if◌then◌else◌, arith}
+use Rattle.std.proofs.Common.{◌≡◌, ℕ, zero, suc, Bool, true, false, List, [], ◌∷◌, Option, Some, None, option_map, codes, cond, refl, ap, sym, subst, ◌∙◌, if◌then◌else◌, arith}
 use Rattle.std.specs.Prelude.{find}
 use Rattle.std.specs.Str.{bytes_eq}
 use Rattle.std.specs.Int.{w128, from_be_bytes}
@@ -30,7 +30,7 @@ use Rattle.platform_document.specs.declared.word.PolicyWord.TheVariants as polic
 use Rattle.platform_document.specs.declared.word.OperationWord.{OperationWord}
 use Rattle.platform_document.specs.declared.word.OperationWord.TheVariants as word
 use Rattle.platform_document.specs.Words.{map_of, policy_of, mode_of, arrival_of, answer_of, guid_of, kind_of, start_list_of, act_of, operation_word, variable, variable_of}
-use Rattle.platform_laws.specs.Words.{map_text, mode_text, arrival_text, act_text, variable_text, IsKind, IsStartList}
+use Rattle.platform_laws.specs.Words.{map_text, mode_text, arrival_text, act_text, variable_text, word_text, IsKind, IsStartList}
 
 -- a word that is the next one of a list, or one of the rest
 pub word_case : {A : Type 0} (text w : List ℕ) (a b : A) (rest : Option A) (P : A → Type 0) → (if bytes_eq text w then Some a else rest) ≡ Some b → (text ≡ w → P a) → (rest ≡ Some b → P b) → P b
@@ -108,20 +108,6 @@ answer_read InterruptPending e = refl
 answer_read SourcePending e = refl
 answer_read SourceQuiesced e = refl
 answer_read _ e = absurd (false≢true e)
-
-abbrev pub word_text : OperationWord → List ℕ
-word_text word.Set = codes "set"
-word_text word.Read = codes "read"
-word_text word.Write = codes "write"
-word_text word.Start = codes "start"
-word_text word.Launch = codes "launch"
-word_text word.Check = codes "check"
-word_text word.Wait = codes "wait"
-word_text word.Alloc = codes "alloc"
-word_text word.Free = codes "free"
-word_text word.Register = codes "register"
-word_text word.Unregister = codes "unregister"
-word_text word.Manage = codes "manage"
 
 pub operation_word_said : (text : List ℕ) (k : OperationWord) → operation_word text ≡ Some k → text ≡ word_text k
 operation_word_said text k is =

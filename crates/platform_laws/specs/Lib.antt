@@ -3,3 +3,5 @@ pub mod Values
 pub mod Says
 pub mod Fits
 pub mod Platform
+pub mod ValueFaults
+pub mod Faults

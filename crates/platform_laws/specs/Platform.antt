@@ -1,11 +1,16 @@
--- The platform that a file stands for, by what it says.
-use Rattle.std.specs.Prelude.{◌≡◌, ℕ, List, IsTrue, Some}
+-- The platform that a file stands for, by what it says, and what may be wrong with a file.
+use Rattle.std.specs.Prelude.{◌≡◌, ◌⊎◌, ℕ, List, IsTrue, Some}
 use Rattle.std.specs.Str.{is_utf8}
 use Rattle.toml.specs.Data.{Members}
 use Rattle.toml.specs.Parse.{parse_document}
 use Rattle.cpu_table.specs.Data.{SetupData}
+use Rattle.platform_document.specs.declared.fault.WalkFault.{WalkFault}
+use Rattle.platform_file.specs.Walk.{error_of}
+use Rattle.platform_file.specs.declared.error.PlatformError.{PlatformError}
+use Rattle.platform_file.specs.declared.error.PlatformError.TheVariants.{NotToml}
 use Rattle.platform_laws.specs.Says.{Says}
 use Rattle.platform_laws.specs.Fits.{Fits}
+use Rattle.platform_laws.specs.Faults.{IsFault}
 
 -- the bytes are UTF-8, and a TOML document with these members
 abbrev pub IsDocument : List ℕ → Members → Type 0
@@ -17,3 +22,9 @@ pub record StandsFor (bytes : List ℕ) (d : SetupData) : Type 0 where
   pub is_document : IsDocument bytes document
   pub says : Says document d
   pub fits : Fits d
+
+-- the bytes are no document, or a document with which something is wrong, told as an error
+abbrev pub IsWrong : List ℕ → PlatformError → Type 0
+IsWrong bytes error =
+    (((t : Members) → IsDocument bytes t → ⊥) × (error ≡ NotToml))
+    ⊎ ((t : Members) × (fault : WalkFault) × IsDocument bytes t × IsFault t fault × (error ≡ error_of fault))

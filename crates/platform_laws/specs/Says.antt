@@ -14,7 +14,9 @@ use Rattle.cpu_table.specs.declared.handlers.ProcedureDef.{ProcedureDef}
 use Rattle.cpu_table.specs.declared.setup.CauseAt.{CauseAt}
 use Rattle.cpu_table.specs.declared.setup.Smram.{Smram}
 use Rattle.cpu_table.specs.declared.waves.Wave.{Wave}
-use Rattle.platform_laws.specs.Words.{map_text, policy_text, mode_text, arrival_text, act_text, operation_text, variable_text, IsKind}
+use Rattle.platform_document.specs.declared.word.OperationWord.{OperationWord}
+use Rattle.platform_document.specs.declared.word.OperationWord.TheVariants as word
+use Rattle.platform_laws.specs.Words.{map_text, policy_text, mode_text, arrival_text, act_text, operation_text, variable_text, IsKind, word_of}
 use Rattle.platform_laws.specs.Values.{SaysNumber, SaysText, SaysList, SaysOr, SaysTables, SaysRegister, SaysKind, SaysStartList, SaysHandler, SaysOperand, IsListOf, IsTableOf, HasOnly}
 
 -- the areas of the processors
@@ -51,20 +53,24 @@ SaysParts IsPlaceOf t (op.Register handler kind into) =
 SaysParts IsPlaceOf t (op.Unregister handle) = SaysOperand t (codes "handle") handle
 SaysParts IsPlaceOf t (op.Manage kind) = SaysKind t (codes "type") kind
 
+-- the names of the parts of an operation with this word
+abbrev pub part_names : OperationWord → List (List ℕ)
+part_names word.Set = codes "into" ∷ codes "value" ∷ []
+part_names word.Read = codes "cpu" ∷ codes "reg" ∷ codes "width" ∷ codes "into" ∷ []
+part_names word.Write = codes "cpu" ∷ codes "reg" ∷ codes "width" ∷ codes "value" ∷ []
+part_names word.Start = codes "cpu" ∷ codes "procedure" ∷ codes "arg" ∷ codes "into" ∷ []
+part_names word.Launch = codes "cpu" ∷ codes "procedure" ∷ codes "arg" ∷ codes "into" ∷ []
+part_names word.Check = codes "token" ∷ []
+part_names word.Wait = codes "token" ∷ codes "into" ∷ []
+part_names word.Alloc = codes "size" ∷ codes "into" ∷ []
+part_names word.Free = codes "place" ∷ []
+part_names word.Register = codes "handler" ∷ codes "type" ∷ codes "into" ∷ []
+part_names word.Unregister = codes "handle" ∷ []
+part_names word.Manage = codes "type" ∷ []
+
 -- the names of an operation's parts
 abbrev pub parts_of : OpDef → List (List ℕ)
-parts_of (op.Set into value) = codes "into" ∷ codes "value" ∷ []
-parts_of (op.Read cpu reg width into) = codes "cpu" ∷ codes "reg" ∷ codes "width" ∷ codes "into" ∷ []
-parts_of (op.Write cpu reg width value) = codes "cpu" ∷ codes "reg" ∷ codes "width" ∷ codes "value" ∷ []
-parts_of (op.Start cpu procedure arg into) = codes "cpu" ∷ codes "procedure" ∷ codes "arg" ∷ codes "into" ∷ []
-parts_of (op.Launch cpu procedure arg into) = codes "cpu" ∷ codes "procedure" ∷ codes "arg" ∷ codes "into" ∷ []
-parts_of (op.Check token) = codes "token" ∷ []
-parts_of (op.Wait token into) = codes "token" ∷ codes "into" ∷ []
-parts_of (op.Alloc size into) = codes "size" ∷ codes "into" ∷ []
-parts_of (op.Free place) = codes "place" ∷ []
-parts_of (op.Register handler kind into) = codes "handler" ∷ codes "type" ∷ codes "into" ∷ []
-parts_of (op.Unregister handle) = codes "handle" ∷ []
-parts_of (op.Manage kind) = codes "type" ∷ []
+parts_of operation = part_names (word_of operation)
 
 -- an operation of a handler
 pub record SaysOperation (IsPlaceOf : List ℕ → ℕ → Type 0) (t : Members) (operation : OpDef) : Type 0 where

@@ -1,10 +1,10 @@
 -- How each word of a platform file is written.
-use Rattle.std.specs.Prelude.{◌≡◌, ℕ, ◌+◌, ◌<◌, ◌≤◌, List, [], ◌∷◌, ◌++◌, length, IsTrue, Option, Some, None, codes}
+use Rattle.std.specs.Prelude.{◌≡◌, ◌⊎◌, ℕ, ◌+◌, ◌≤◌, List, [], ◌∷◌, ◌++◌, length, IsTrue, Option, Some, None, codes}
 use Rattle.std.specs.Char.{is_digit}
 use Rattle.std.specs.List.{list_all}
 use Rattle.std.specs.Str.Parse.{digits_value}
 use Rattle.std.specs.Int.{w128, from_be_bytes}
-use Rattle.uuid.specs.Text.{parsed}
+use Rattle.uuid.specs.Text.{simple_text, hyphenated_text, braced_text, urn_text, parsed}
 use Rattle.smm_base.specs.declared.kinds.MapKind.{MapKind}
 use Rattle.smm_base.specs.declared.kinds.MapKind.TheVariants.{Ia32, Intel64}
 use Rattle.smm_base.specs.declared.kinds.Policy.{Policy}
@@ -19,6 +19,8 @@ use Rattle.cpu_table.specs.declared.handlers.Act.{Act}
 use Rattle.cpu_table.specs.declared.handlers.Act.TheVariants.{Get, Put}
 use Rattle.cpu_table.specs.declared.handlers.OpDef.{OpDef}
 use Rattle.cpu_table.specs.declared.handlers.OpDef.TheVariants as op
+use Rattle.platform_document.specs.declared.word.OperationWord.{OperationWord}
+use Rattle.platform_document.specs.declared.word.OperationWord.TheVariants as word
 
 -- the map of the save-state images
 abbrev pub map_text : MapKind → List ℕ
@@ -47,20 +49,39 @@ abbrev pub act_text : Act → List ℕ
 act_text Get = codes "get"
 act_text Put = codes "put"
 
--- what an operation of a handler does
+-- how the word of an operation is written
+abbrev pub word_text : OperationWord → List ℕ
+word_text word.Set = codes "set"
+word_text word.Read = codes "read"
+word_text word.Write = codes "write"
+word_text word.Start = codes "start"
+word_text word.Launch = codes "launch"
+word_text word.Check = codes "check"
+word_text word.Wait = codes "wait"
+word_text word.Alloc = codes "alloc"
+word_text word.Free = codes "free"
+word_text word.Register = codes "register"
+word_text word.Unregister = codes "unregister"
+word_text word.Manage = codes "manage"
+
+-- the word of an operation
+abbrev pub word_of : OpDef → OperationWord
+word_of (op.Set into value) = word.Set
+word_of (op.Read cpu reg width into) = word.Read
+word_of (op.Write cpu reg width value) = word.Write
+word_of (op.Start cpu procedure arg into) = word.Start
+word_of (op.Launch cpu procedure arg into) = word.Launch
+word_of (op.Check token) = word.Check
+word_of (op.Wait token into) = word.Wait
+word_of (op.Alloc size into) = word.Alloc
+word_of (op.Free place) = word.Free
+word_of (op.Register handler kind into) = word.Register
+word_of (op.Unregister handle) = word.Unregister
+word_of (op.Manage kind) = word.Manage
+
+-- how an operation's word is written
 abbrev pub operation_text : OpDef → List ℕ
-operation_text (op.Set into value) = codes "set"
-operation_text (op.Read cpu reg width into) = codes "read"
-operation_text (op.Write cpu reg width value) = codes "write"
-operation_text (op.Start cpu procedure arg into) = codes "start"
-operation_text (op.Launch cpu procedure arg into) = codes "launch"
-operation_text (op.Check token) = codes "check"
-operation_text (op.Wait token into) = codes "wait"
-operation_text (op.Alloc size into) = codes "alloc"
-operation_text (op.Free place) = codes "free"
-operation_text (op.Register handler kind into) = codes "register"
-operation_text (op.Unregister handle) = codes "unregister"
-operation_text (op.Manage kind) = codes "manage"
+operation_text operation = word_text (word_of operation)
 
 -- a variable is the letter v and one decimal digit
 abbrev pub variable_text : ℕ → List ℕ
@@ -69,6 +90,10 @@ variable_text number = 118 ∷ (48 + number) ∷ []
 -- a text is a GUID in one of the forms of RFC 9562 that the uuid crate reads, the most significant byte first
 abbrev pub IsGuid : List ℕ → ℕ → Type 0
 IsGuid text guid = (bytes : List ℕ) × (parsed text ≡ Some bytes) × (guid ≡ from_be_bytes w128 bytes)
+
+-- a text is a GUID's bytes as they are printed (RFC 9562): the digits alone, in groups with hyphens, these in braces, or after `urn:uuid:`; the letter tells the case
+abbrev pub IsGuidText : ℕ → List ℕ → List ℕ → Type 0
+IsGuidText letter bytes text = (text ≡ simple_text letter bytes) ⊎ (text ≡ hyphenated_text letter bytes) ⊎ (text ≡ braced_text letter bytes) ⊎ (text ≡ urn_text letter bytes)
 
 -- a text names a list of handlers: the root list, or that of a GUID
 abbrev pub IsKind : List ℕ → HandlerType → Type 0

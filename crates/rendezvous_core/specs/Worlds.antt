@@ -1,6 +1,6 @@
 -- The world: the shared words, what lies on them, and where each actor stands; one step of an actor, and the replay of a schedule.
-use Rattle.std.specs.Prelude.{ℕ, ◌==◌, Bool, true, false, ◌&&◌, if◌then◌else◌, List, [], ◌∷◌, ◌++◌, map, slice_index_or, slice_get, slice_set, replicate, zip, Option, Some, None}
-use Rattle.std.specs.List.{list_all, enumerate_from}
+use Rattle.std.specs.Prelude.{ℕ, ◌+◌, ◌==◌, Bool, true, false, if◌then◌else◌, List, [], ◌∷◌, slice_index_or, slice_get, slice_set, replicate, Option, Some, None}
+use Rattle.std.specs.List.{list_all}
 use Rattle.smm_base.specs.declared.kinds.Policy.{Policy}
 use Rattle.smm_base.specs.declared.kinds.Policy.TheVariants.{Elected, Fixed}
 use Rattle.save_state_map.specs.Images.{ImageContents}
@@ -23,7 +23,8 @@ use Rattle.sync_words.specs.Access.{applied}
 use Rattle.sync_words.specs.Steps.{Taken}
 use Rattle.handler_ops.specs.Sessions.{Session, first_session}
 use Rattle.cpu_program.specs.declared.cargo.Cargo.TheVariants.{Chair}
-use Rattle.cpu_program.specs.Actors.{Actor, OfProcessor, OfChipset, Cargo}
+use Rattle.cpu_program.specs.declared.cargo.Cargo.{Cargo}
+use Rattle.cpu_program.specs.Actors.{Actor, OfProcessor, OfChipset}
 use Rattle.cpu_program.specs.Programs.{first_processor, first_chipset, want_of, taken, gift_of, given, received, last_of}
 use Rattle.rendezvous_core.specs.declared.stepped.Stepped.{Stepped}
 use Rattle.rendezvous_core.specs.declared.stepped.Stepped.TheVariants as stepped
@@ -156,53 +157,70 @@ start d registers images =
 abbrev pub event_of : ℕ → WordId → Access → ℕ → Label → Event
 event_of me word access found label = record { actor = me; word = word; access = access; found = found; label = label }
 
--- the actor goes on, with the words and what lies on them as they are now
-abbrev pub goes_on : World → ℕ → WordId → Access → ℕ → Taken Actor → Stepped × World
-goes_on w me word access found t =
-    (stepped.Event (event_of me word access found t.label), record w { actors = slice_set w.actors me t.after })
+-- What the turn of one actor comes to: an event, with the words, what lies on them, and the actor after it; or the actor waits on this
+-- number, or is off, and nothing changes.
+pub data Turn : Type 0 where
+  Moves : Event → Words → Lying → Actor → Turn
+  Waits : ℕ → Turn
+  Rests : Turn
 
--- nothing changes, and there is no event
-abbrev pub waits : World → ℕ → Stepped × World
-waits w found = (stepped.Waiting found, w)
+abbrev pub moves : ℕ → WordId → Access → ℕ → Words → Lying → Taken Actor → Turn
+moves me word access found words lying t = Moves (event_of me word access found t.label) words lying t.after
 
 -- a thing that is given is laid on the word; without it the actor waits
-abbrev pub gives : World → ℕ → WordId → Access → ℕ → ℕ → Actor → Option Cargo → Stepped × World
-gives w me word access new found a None = waits w found
-gives w me word access new found a (Some cargo) =
-    goes_on (record w { words = write w.words word new; lying = lay w.lying word (Some cargo) }) me word access found (taken (given a) found)
+abbrev pub gives : Words → Lying → ℕ → WordId → Access → ℕ → ℕ → Actor → Option Cargo → Turn
+gives words lying me word access new found a None = Waits found
+gives words lying me word access new found a (Some cargo) =
+    moves me word access found (write words word new) (lay lying word (Some cargo)) (taken (given a) found)
 
 -- what lies on the word is taken; where nothing lies the actor waits
-abbrev pub takes : World → ℕ → WordId → Access → ℕ → ℕ → Actor → Option Cargo → Stepped × World
-takes w me word access new found a None = waits w found
-takes w me word access new found a (Some cargo) =
-    goes_on (record w { words = write w.words word new; lying = lay w.lying word None }) me word access found (taken (received cargo a) found)
+abbrev pub takes : Words → Lying → ℕ → WordId → Access → ℕ → ℕ → Actor → Option Cargo → Turn
+takes words lying me word access new found a None = Waits found
+takes words lying me word access new found a (Some cargo) =
+    moves me word access found (write words word new) (lay lying word None) (taken (received cargo a) found)
 
 -- the word changes, and with it what changes hands
-abbrev pub changes : World → ℕ → WordId → Access → Hand → ℕ → ℕ → Actor → Stepped × World
-changes w me word access Nothing new found a =
-    goes_on (record w { words = write w.words word new }) me word access found (taken a found)
-changes w me word access (Give k) new found a = gives w me word access new found a (gift_of a)
-changes w me word access (Take k) new found a = takes w me word access new found a (lying_on w.lying word)
+abbrev pub changes : Words → Lying → ℕ → WordId → Access → Hand → ℕ → ℕ → Actor → Turn
+changes words lying me word access Nothing new found a = moves me word access found (write words word new) lying (taken a found)
+changes words lying me word access (Give k) new found a = gives words lying me word access new found a (gift_of a)
+changes words lying me word access (Take k) new found a = takes words lying me word access new found a (lying_on lying word)
 
 -- what comes of the wanted access: where it isn't ready nothing changes, and a hand moves only where the word changes
-abbrev pub accessed : World → ℕ → WordId → Access → Hand → Actor → Applied → Stepped × World
-accessed w me word access hand a (NotReady found) = waits w found
-accessed w me word access hand a (Same found) = goes_on w me word access found (taken a found)
-accessed w me word access hand a (Changed new found) = changes w me word access hand new found a
+abbrev pub accesses : Words → Lying → ℕ → WordId → Access → Hand → Actor → Applied → Turn
+accesses words lying me word access hand a (NotReady found) = Waits found
+accesses words lying me word access hand a (Same found) = moves me word access found words lying (taken a found)
+accesses words lying me word access hand a (Changed new found) = changes words lying me word access hand new found a
 
-abbrev pub step_wanting : World → ℕ → Actor → Want → Stepped × World
-step_wanting w me a want.Off = (stepped.Off, w)
-step_wanting w me a (want.Access word access hand) = accessed w me word access hand a (applied (read w.words word) access)
+abbrev pub turn_wanting : Words → Lying → ℕ → Actor → Want → Turn
+turn_wanting words lying me a want.Off = Rests
+turn_wanting words lying me a (want.Access word access hand) =
+    accesses words lying me word access hand a (applied (read words word) access)
+
+-- the turn of the actor `me`: the access that it wants, on the word as it stands
+abbrev pub turn : Words → Lying → ℕ → Actor → Turn
+turn words lying me a = turn_wanting words lying me a (want_of a)
+
+-- the world after a turn
+abbrev pub turned : World → ℕ → Turn → Stepped × World
+turned w me (Moves e words lying a) = (stepped.Event e, record { words = words; lying = lying; actors = slice_set w.actors me a })
+turned w me (Waits found) = (stepped.Waiting found, w)
+turned w me Rests = (stepped.Off, w)
 
 abbrev pub step_of : World → ℕ → Option Actor → Stepped × World
 step_of w me None = (stepped.Off, w)
-step_of w me (Some a) = step_wanting w me a (want_of a)
+step_of w me (Some a) = turned w me (turn w.words w.lying me a)
 
--- One step of an actor: the access that it wants, on the word as it stands.
+-- One step of an actor: its turn, where there is such an actor.
 abbrev pub step : World → ℕ → Stepped × World
 step w me = step_of w me (slice_get w.actors me)
 
 -- THE REPLAY OF A SCHEDULE
+
+-- the actor had to wait, or was off
+abbrev pub MakesNoEvent : Stepped → Type 0
+MakesNoEvent (stepped.Event e) = ⊥
+MakesNoEvent (stepped.Waiting found) = Unit {0}
+MakesNoEvent stepped.Off = Unit {0}
 
 -- an actor that waits or is off adds nothing
 abbrev pub with_event : Stepped → List Event → List Event
@@ -252,9 +270,9 @@ abbrev pub labels : List Event → List (ℕ × Label)
 labels [] = []
 labels (e ∷ es) = with_label e.actor e.label (labels es)
 
--- a replay as far as it has come, with room for so many events
+-- a replay of so many processors as far as it has come, with room for so many events
 pub record Replay : Type 0 where
-  pub setup : SetupData
+  pub processors : ℕ
   pub world : World
   pub events : List Event
   pub room : ℕ

@@ -8,3 +8,4 @@ pub mod Lists
 pub mod Working
 pub mod Once
 pub mod Lawful
+pub mod Examples

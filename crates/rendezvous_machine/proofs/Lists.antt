@@ -1,5 +1,5 @@
 -- The serving list of the session that there is: a place stands for it, and the jobs at that place are those of the processors.
-use Rattle.std.proofs.Common.{◌≡◌, ◌≢◌, ◌<◌, ◌≤◌, ◌↔◌, ◌⊎◌, ℕ, Bool, true, false, List, [], ◌∷◌, ◌++◌, length, slice_index_or, slice_set, IsSomeAnd, Option, Some, None, refl, sym, ap, subst, ⊎_elim, ◌∙◌, true≢false, arith, get_or-set_same, get_or-set_other, length-set}
+use Rattle.std.proofs.Common.{◌≡◌, ◌≢◌, ◌<◌, ◌≤◌, ◌↔◌, ◌⊎◌, ℕ, Bool, true, false, List, [], ◌∷◌, ◌++◌, length, slice_index_or, slice_set, IsSomeAnd, is_some, Option, Some, None, refl, sym, ap, subst, ⊎_elim, ◌∙◌, true≢false, arith, get_or-set_same, get_or-set_other, length-set}
 use Rattle.std.proofs.lemmas.Bool.{cases_eq}
 use Rattle.smm_base.specs.declared.kinds.HandlerType.{HandlerType}
 use Rattle.smm_base.specs.declared.status.Status.{Status}
@@ -350,3 +350,19 @@ pub none_left : (d : SetupData) (least : ℕ) (begin : Serving) (jobs : Jobs) (s
 none_left d least begin jobs served None done e h = h.none
 none_left d least begin jobs None (Some es) done e h = absurd h
 none_left d least begin jobs (Some w) (Some es) done e h = (h.over e).1
+
+-- a list is whole exactly where nothing is left to say at its place
+nothing_whole : (kinds : List HandlerType) (walks : List OpenWalk) (b : Option Begun) → (HasMore kinds walks b → ⊥) → nothing_left kinds walks b ≡ true
+nothing_whole [] [] None o = refl
+nothing_whole (k ∷ ks) ws b o = absurd (o tt)
+nothing_whole [] (w ∷ ws) b o = absurd (o tt)
+nothing_whole [] [] (Some b) o = absurd (o tt)
+
+pub whole_there : (d : SetupData) (least : ℕ) (begin : Serving) (jobs : Jobs) (std : Standing) (served : Option ℕ) (serving : Option (List Event)) (done : Bool)
+    → FitsList d least begin jobs served serving done → is_some serving ≡ true → (is_over (place_by d begin served serving) ≡ true) ↔ IsAll d begin served serving
+whole_there d least begin jobs std served None done h t = absurd (true≢false (sym t))
+whole_there d least begin jobs std None (Some es) done h t = absurd h
+whole_there d least begin jobs std (Some w) (Some es) done h t =
+    let p = place_by d begin (Some w) (Some es) in
+    let both = std.whole (program_of d) w (walks_of d.waves w) begin p es h.stands in
+    (λ o. both.0 (has_none p.kinds p.walks p.begun o), λ x. nothing_whole p.kinds p.walks p.begun (both.1 x))

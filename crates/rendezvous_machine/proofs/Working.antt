@@ -1,5 +1,5 @@
 -- Every label keeps that a place stands for the serving list, with the processors' jobs.
-use Rattle.std.proofs.Common.{◌≡◌, ◌≢◌, ◌<◌, ◌⊎◌, ℕ, zero, suc, Bool, true, false, List, [], ◌∷◌, length, replicate, slice_index_or, slice_set, IsSomeAnd, Option, Some, None, refl, sym, ap, subst, inl, inr, ⊎_elim, ◌∙◌, true≢false, arith, get_or-set_other, length-set}
+use Rattle.std.proofs.Common.{◌≡◌, ◌↔◌, ◌≢◌, ◌<◌, ◌⊎◌, ℕ, zero, suc, Bool, true, false, List, [], ◌∷◌, length, replicate, slice_index_or, slice_set, IsSomeAnd, is_some, Option, Some, None, refl, sym, ap, subst, inl, inr, ⊎_elim, ◌∙◌, true≢false, arith, get_or-set_other, length-set}
 use Rattle.std.proofs.lemmas.List.{length-map}
 use Rattle.std.specs.Option.{option_map}
 use Rattle.smm_base.specs.declared.status.Status.{Status}
@@ -18,7 +18,7 @@ use Rattle.rendezvous_machine.specs.Effects.{effect, with_member, entered, resum
 use Rattle.rendezvous_machine.specs.Histories.{is_end}
 use Rattle.rendezvous_machine.proofs.Changes.{session_after, session_is}
 use Rattle.rendezvous_machine.proofs.Sets.{set_at, set_elsewhere, mapped}
-use Rattle.rendezvous_machine.proofs.Lists.{Standing, Jobs, IsOpenJob, NoJobs, FitsList, FitsJobs, JobsFit, jobs_of, refit, OverAt, GivenTo, AfterLabel, said_fits, plain_seats, ran_fits, collect_fits, start_fits, start_is, Starting, begun_fits, served_fits, done_fits, none_left}
+use Rattle.rendezvous_machine.proofs.Lists.{Standing, Jobs, IsOpenJob, NoJobs, FitsList, FitsJobs, JobsFit, jobs_of, refit, OverAt, GivenTo, AfterLabel, said_fits, plain_seats, ran_fits, collect_fits, start_fits, start_is, Starting, begun_fits, served_fits, done_fits, none_left, whole_there}
 
 -- JOBS
 
@@ -260,3 +260,9 @@ same_length d m i say.End = length-map (slice_set m.members i (record (member m 
 same_length d m i (say.Resume how) = length-set m.members i _
 same_length d m i say.Off = length-set m.members i _
 same_length d m i _ = refl
+
+-- what the place that stands for the list says of it
+pub whole_in : (std : Standing) (d : SetupData) (least : ℕ) (m : Machine) (o : Option Session) → FitsJobs d least (first_serving d m) (jobs_of m) o
+    → IsSomeAnd o (λ s. is_some s.serving ≡ true) → (is_over (place_in d (first_serving d m) o) ≡ true) ↔ IsSomeAnd o (IsServed d m)
+whole_in std d least m None h t = absurd t
+whole_in std d least m (Some s) h t = whole_there d least (first_serving d m) (jobs_of m) std s.served s.serving s.is_done h t

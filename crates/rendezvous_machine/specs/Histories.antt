@@ -14,6 +14,24 @@ abbrev pub has_end : List Said → Bool
 has_end [] = false
 has_end (e ∷ es) = is_end e.1 || has_end es
 
+-- the labels that only a boot processor says
+abbrev pub is_leading : Label → Bool
+is_leading say.Silent = false
+is_leading (say.Excepted e) = false
+is_leading (say.Wave w) = false
+is_leading say.Enter = false
+is_leading say.Turn = false
+is_leading say.Arrive = false
+is_leading say.Late = false
+is_leading say.Elect = false
+is_leading say.Quit = false
+is_leading say.Report = false
+is_leading (say.Run j result S) = false
+is_leading say.Depart = false
+is_leading (say.Resume how) = false
+is_leading say.Off = false
+is_leading _ = true
+
 -- the actor said the label, and since then no session has ended
 pub record HasSaid (i : ℕ) (l : Label) (es : List Said) : Type 0 where
   pub front : List Said

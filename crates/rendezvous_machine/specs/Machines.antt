@@ -37,7 +37,8 @@ pub record Session : Type 0 where
   pub serving : Option (List Event)  -- the serving list, once it has begun
   pub is_done : Bool
 
--- What is registered, and the pool, are those that the session began with: its serving list tells what they are now.
+-- What is registered, and the pool, are those with which the session began that there is, or with which the next one will begin: the
+-- serving list tells what they are now.
 pub record Machine : Type 0 where
   pub members : List Member
   pub waves : ℕ  -- how many were announced

@@ -1,4 +1,4 @@
-ghost use Rattle.std.specs.Prelude.{◌≡◌, ◌≢◌, ◌<◌, ◌⊎◌, ℕ, true, false, List, [], ◌∷◌, ◌++◌, length, Some};
+ghost use Rattle.std.specs.Prelude.{◌≡◌, ◌≢◌, ◌<◌, ◌⊎◌, ◌↔◌, ℕ, true, false, List, ◌∷◌, ◌++◌, length, Some, IsSome, IsSomeAnd};
 ghost use Rattle.std.specs.List.{count_by};
 ghost use Rattle.smm_base.specs.declared.status.Status.{Status};
 ghost use Rattle.save_state_map.specs.Images.{ImageContents};
@@ -6,13 +6,15 @@ ghost use Rattle.cpu_regs.specs.Registers.{Registers};
 ghost use Rattle.cpu_table.specs.Data.{SetupData};
 ghost use Rattle.cpu_table.specs.declared.setup.Mode.TheVariants.{Traditional};
 ghost use Rattle.sync_words.specs.declared.label.StartRefusal.{StartRefusal};
+ghost use Rattle.sync_words.specs.declared.label.Label.{Label};
 ghost use Rattle.sync_words.specs.declared.label.Label.TheVariants as say;
 ghost use Rattle.handler_ops.specs.Procedures.{job_on};
 ghost use Rattle.rendezvous_machine.specs.Effects.{given};
 ghost use Rattle.rendezvous_machine.specs.Machines.{beginning, member};
+ghost use Rattle.rendezvous_machine.specs.Listed.{place_of, is_over, IsServed};
 ghost use Rattle.rendezvous_machine.specs.Refusals.{refusal};
-ghost use Rattle.rendezvous_machine.specs.Runs.{Said, IsRun, machine_after, resumed_image};
-ghost use Rattle.rendezvous_machine.specs.Histories.{has_end, is_run, HasSaid, HasBegun, HasAll};
+ghost use Rattle.rendezvous_machine.specs.Runs.{Said, IsRun, machine_after};
+ghost use Rattle.rendezvous_machine.specs.Histories.{has_end, is_leading, is_run, HasSaid, HasBegun, HasAll};
 
 use handler_ops::standing;
 
@@ -22,6 +24,10 @@ pub fn run_laws()
     ensures sessions { (d : SetupData) (registers : List Registers) (images : List ImageContents) (before middle after : List Said) (i j : ℕ) →
         IsRun d (beginning d registers images) (before ++ ((i, say.Elect) ∷ (middle ++ ((j, say.Elect) ∷ after)))) →
         has_end middle ≡ true }
+    // What a boot processor says is said, up to the session's end, by the one that was elected.
+    ensures led { (d : SetupData) (registers : List Registers) (images : List ImageContents) (before middle after : List Said) (i j : ℕ) (l : Label) →
+        IsRun d (beginning d registers images) (before ++ ((i, say.Elect) ∷ (middle ++ ((j, l) ∷ after)))) →
+        has_end middle ≡ false → is_leading l ≡ true → j ≡ i }
     // Each wave is served once at most.
     ensures waves { (d : SetupData) (registers : List Registers) (images : List ImageContents) (before middle after : List Said) (i j w v : ℕ) →
         IsRun d (beginning d registers images) (before ++ ((i, say.Served w) ∷ (middle ++ ((j, say.Served v) ∷ after)))) →
@@ -60,8 +66,11 @@ pub fn run_laws()
         IsRun d (beginning d registers images) (before ++ ((i, say.Start c j p a) ∷ (middle ++ ((c, say.Run j answer status) ∷ after)))) →
         has_end middle ≡ false →
         (job_on d.procedures (given j p a) (member (machine_after d (beginning d registers images) (before ++ ((i, say.Start c j p a) ∷ middle))) c).image).answer ≡ (answer, status) }
-    // Before any label the image of the last resume is the first one.
-    ensures first { (d : SetupData) (i : ℕ) (registers : Registers) (image : ImageContents) → resumed_image d i registers image [] ≡ image }
+    // A serving list is whole exactly where its place has nothing left to say.
+    ensures whole { (d : SetupData) (registers : List Registers) (images : List ImageContents) (es : List Said) →
+        IsRun d (beginning d registers images) es →
+        let m = machine_after d (beginning d registers images) es in
+        IsSomeAnd m.session (λ s. IsSome s.serving) → (is_over (place_of d m) ≡ true) ↔ IsSomeAnd m.session (IsServed d m) }
 {
     standing();
 }

@@ -1,3 +1,4 @@
+pub mod Says
 pub mod Schedule
 pub mod Steps
 pub mod Texts

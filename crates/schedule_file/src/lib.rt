@@ -4,7 +4,9 @@
 mod actors;
 mod error;
 mod item;
+mod laws;
 mod schedule;
 
 pub use error::ScheduleError;
+pub use laws::schedule_laws;
 pub use schedule::read_schedule;

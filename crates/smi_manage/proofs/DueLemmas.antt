@@ -8,8 +8,7 @@ use Rattle.handler_registry.specs.declared.registration.Registration.{Registrati
 use Rattle.handler_registry.specs.Registrations.{Registrations, is_same_list, is_on_after, is_live, is_full, registered, IsRising, IsRegistered}
 use Rattle.handler_registry.specs.Changes.{Change, changed, all_changed}
 use Rattle.handler_registry.specs.Changes.Change.{Register, Unregister}
-use Rattle.handler_registry.proofs.RisingLemmas.{others}
-use Rattle.handler_registry.proofs.LawLemmas.{later_last}
+use Rattle.handler_registry.proofs.LawLemmas.{others, later_last}
 use Rattle.smi_manage.specs.Walks.{at_most}
 use Rattle.smi_manage.specs.Calls.{still_live}
 use Rattle.smi_manage.proofs.LiveLemmas.{survives, survives_all, live_after_all, live_at_place, at_most_last}

@@ -7,8 +7,7 @@ use Rattle.handler_registry.specs.declared.registration.Registration.{Registrati
 use Rattle.handler_registry.specs.Registrations.{Registrations, has_serial, is_full, is_live, registered, IsRising}
 use Rattle.handler_registry.specs.Changes.{Change, changed, all_changed}
 use Rattle.handler_registry.specs.Changes.Change.{Register, Unregister}
-use Rattle.handler_registry.proofs.RisingLemmas.{others}
-use Rattle.handler_registry.proofs.LawLemmas.{later_last}
+use Rattle.handler_registry.proofs.LawLemmas.{others, later_last}
 
 -- the change leaves a registration with this serial number live
 abbrev pub survives : Change → ℕ → Bool

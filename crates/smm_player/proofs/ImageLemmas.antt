@@ -12,7 +12,7 @@ use Rattle.smm_player.specs.declared.images.ImagesFault.TheVariants as fault
 use Rattle.smm_player.specs.declared.refusal.Refusal.TheVariants.{Images}
 use Rattle.smm_player.specs.declared.fault.Fault.{Fault}
 use Rattle.cpu_table.specs.Data.{SetupData}
-use Rattle.one_processor.specs.Setups.{AreImagesOf}
+use Rattle.rendezvous_core.specs.Starts.{AreImagesOf}
 use Rattle.smm_player.specs.Due.{Finding, kinds_agree, differs, counted, serving}
 
 all_at : (kind : MapKind) (n : ℕ) (bytes : List ℕ) → All (λ image. image.kind ≡ kind) (images_at kind n bytes)

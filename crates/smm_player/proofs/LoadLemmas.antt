@@ -1,11 +1,8 @@
 -- What is found in the input files, and when a fault may come while they are loaded.
-use Rattle.std.proofs.Common.{◌≡◌, ◌≢◌, ℕ, ◌+◌, ◌==◌, ◌≤◌, ◌⊎◌, inl, inr, Bool, true, false, List, [], ◌∷◌, length, Option, None, Some, Result, Ok, Err, IfOk, IfErr, IfSome, IsErrOf, IsSomeAnd, MatchOption, ◌<◌, if◌then◌else◌, refl, ap, sym, subst, ◌∙◌}
+use Rattle.std.proofs.Common.{◌≡◌, ◌≢◌, ℕ, ◌⊎◌, inl, inr, Bool, true, false, List, length, Option, None, Some, Result, Ok, Err, IfOk, IfErr, if◌then◌else◌, refl, ap, sym, subst, ◌∙◌}
 use Rattle.std.specs.Str.{bytes_eq}
-use Rattle.std.proofs.lemmas.Bool.{lt-ltb, le-ltb}
 use Rattle.std.proofs.lemmas.Slice.Eq.{bytes_eq-Decides}
 use Rattle.smm_base.specs.Store.{FileMap}
-use Rattle.smm_base.specs.declared.store.LoadError.{LoadError}
-use Rattle.smm_base.specs.declared.store.LoadError.TheVariants as load
 use Rattle.smm_base.specs.declared.kinds.MapKind.{MapKind}
 use Rattle.save_state_map.specs.Images.{ImageContents}
 use Rattle.image_file.specs.declared.error.ImagesError.{ImagesError}
@@ -21,91 +18,37 @@ use Rattle.platform_file.specs.Walk.{setup_read}
 use Rattle.schedule_file.specs.Schedule.{schedule_of}
 use Rattle.smm_player.specs.declared.images.ImagesFault.TheVariants as fault
 use Rattle.smm_player.specs.declared.refusal.Refusal.{Refusal}
-use Rattle.smm_player.specs.declared.refusal.Refusal.TheVariants.{Read, TooLong, Platform, Images, Schedule, NotBuilt}
+use Rattle.smm_player.specs.declared.refusal.Refusal.TheVariants.{Read, TooLong, Platform, Images, Schedule}
 use Rattle.smm_player.specs.declared.fault.Fault.{Fault}
 use Rattle.smm_player.specs.declared.fault.Fault.TheVariants.{Refused, Write, Save, Memory}
 use Rattle.smm_player.specs.Fault.{platform_fault, images_fault, schedule_fault}
-use Rattle.smm_player.specs.Due.{Finding, and_then, or_refusal, loaded, file_due, if_built, platform_found, serving, judged, images_found, schedule_found, without, schedule_due, relocated_or, started, plan_with, IsDue, RefusalCause}
-use Rattle.one_processor.specs.Starts.{start_refusal}
+use Rattle.smm_player.specs.Due.{Finding, and_then, or_refusal, loaded, file_due, platform_found, serving, judged, images_found, schedule_found, without, schedule_due, relocated_or, started, plan_with, IsDue, RefusalCause}
+use Rattle.rendezvous_core.specs.Starts.{start_refusal}
 use Rattle.smbase_reloc.specs.declared.error.RelocError.{RelocError}
 use Rattle.smm_player.specs.declared.command.Step.{Step}
 use Rattle.smm_player.specs.Plan.{Plan, plan}
-use Rattle.smm_player.specs.Loading.{IsLoadFault, IsRefusedFor, LoadCause, RefusedReading, StopsReading}
-
--- a refusal with its cause, or want of memory
-pub refused_cause : {A : Type 0} (judge : FileMap → Finding A) (files : Option FileMap) (failed : Type 0) (refusal : Refusal) (fault : Fault) → IsRefusedFor refusal fault → RefusalCause judge files failed refusal → LoadCause judge files failed fault
-refused_cause judge files failed refusal fault is cause =
-    let P : Fault → Type 0 = λ f. LoadCause judge files failed f in
-    elim is [ inl e ↦ subst P (sym e) cause | inr e ↦ subst P (sym e) tt ]
-
-pub refused_reading : {A : Type 0} (found : Finding A) (refusal : Refusal) (fault : Fault) → IsRefusedFor refusal fault → RefusedReading found refusal → StopsReading found fault
-refused_reading found refusal fault is cause =
-    let P : Fault → Type 0 = λ f. StopsReading found f in
-    elim is [ inl e ↦ subst P (sym e) cause | inr e ↦ subst P (sym e) tt ]
-
--- the load of one file
-
-gone : (limit : ℕ) (name : List ℕ) (held : FileMap) → loaded limit name (without name held name) ≡ Err (Read name)
-gone limit name held = ap (λ b. loaded limit name (if b then None else held name)) ((bytes_eq-Decides name name).1 refl)
-
-pub load_failed : (limit : ℕ) (name : List ℕ) (files : Option FileMap) (failed : Type 0) → failed → RefusalCause (λ held. loaded limit name (held name)) files failed (Read name)
-load_failed limit name None failed did = did
-load_failed limit name (Some held) failed did = inr (did, gone limit name held)
-
-pub load_missing : (limit : ℕ) (name : List ℕ) (files : Option FileMap) (failed : Type 0) → MatchOption files failed (λ held. held name ≡ None) → RefusalCause (λ held. loaded limit name (held name)) files failed (Read name)
-load_missing limit name None failed is = is
-load_missing limit name (Some held) failed is = inl (ap (loaded limit name) is)
-
-longer : (limit : ℕ) (name : List ℕ) (held : Option (List ℕ)) → IsSomeAnd held (λ bytes. limit < length bytes) → loaded limit name held ≡ Err (TooLong name limit)
-longer limit name None is = absurd is
-longer limit name (Some bytes) is = ap (λ b. if b then Err (TooLong name limit) else Ok bytes) (lt-ltb limit (length bytes) is)
-
-pub load_too_long : (limit : ℕ) (name : List ℕ) (files : Option FileMap) (failed : Type 0) → MatchOption files failed (λ held. IsSomeAnd (held name) (λ bytes. limit < length bytes)) → RefusalCause (λ held. loaded limit name (held name)) files failed (TooLong name limit)
-load_too_long limit name None failed is = is
-load_too_long limit name (Some held) failed is = longer limit name (held name) is
-
-within : (limit : ℕ) (name bytes : List ℕ) (held : Option (List ℕ)) → length bytes ≤ limit → held ≡ Some bytes → loaded limit name held ≡ Ok bytes
-within limit name bytes held fits is = ap (loaded limit name) is ∙ ap (λ b. if b then Err (TooLong name limit) else Ok bytes) (le-ltb limit (length bytes) fits)
-
-pub load_due : (limit : ℕ) (name : List ℕ) (files : Option FileMap) (bytes : List ℕ) → length bytes ≤ limit → IfSome files (λ held. held name ≡ Some bytes) → IsDue (λ held. loaded limit name (held name)) files bytes
-load_due limit name None bytes fits is = tt
-load_due limit name (Some held) bytes fits is = within limit name bytes (held name) fits is
-
--- what stops a load, by its error
-pub load_stops : (T : Type 0) (limit : ℕ) (name : List ℕ) (files : Option FileMap) (failed : Type 0) (error : LoadError) (fault : Fault) →
-    (IsErrOf {T = T} (Err error) load.Failed → failed) →
-    (IsErrOf {T = T} (Err error) load.Missing → MatchOption files failed (λ held. held name ≡ None)) →
-    (IsErrOf {T = T} (Err error) load.TooLong → MatchOption files failed (λ held. IsSomeAnd (held name) (λ bytes. limit < length bytes))) →
-    IsLoadFault limit name error fault → LoadCause (λ held. loaded limit name (held name)) files failed fault
-load_stops T limit name files failed load.Failed fault did missing long is =
-    refused_cause (λ held. loaded limit name (held name)) files failed (Read name) fault is (load_failed limit name files failed (did refl))
-load_stops T limit name files failed load.Missing fault did missing long is =
-    refused_cause (λ held. loaded limit name (held name)) files failed (Read name) fault is (load_missing limit name files failed (missing refl))
-load_stops T limit name files failed load.TooLong fault did missing long is =
-    refused_cause (λ held. loaded limit name (held name)) files failed (TooLong name limit) fault is (load_too_long limit name files failed (long refl))
-load_stops T limit name files failed load.NoMemory fault did missing long is =
-    let P : Fault → Type 0 = λ f. LoadCause (λ (held : FileMap). loaded limit name (held name)) files failed f in subst P (sym is) tt
+use Rattle.smm_player.specs.Loading.{LoadCause, RefusedReading, StopsReading}
 
 -- the platform file
 
--- a setup that was read is judged
-pub read_on : (name bytes : List ℕ) (setup : SetupData) → setup_read bytes ≡ Ok setup → platform_found name bytes ≡ if_built name setup
-read_on name bytes setup read = ap (λ r. and_then (or_refusal Platform r) (if_built name)) read
+-- what is read is found
+pub platform_is_found : (bytes : List ℕ) (setup : SetupData) → setup_read bytes ≡ Ok setup → platform_found bytes ≡ Ok setup
+platform_is_found bytes setup read = ap (or_refusal Platform) read
 
-read_stops : (name bytes : List ℕ) (error : PlatformError) → setup_read bytes ≡ Err error → platform_found name bytes ≡ Err (Platform error)
-read_stops name bytes error read = ap (λ r. and_then (or_refusal Platform r) (if_built name)) read
+read_stops : (bytes : List ℕ) (error : PlatformError) → setup_read bytes ≡ Err error → platform_found bytes ≡ Err (Platform error)
+read_stops bytes error read = ap (or_refusal Platform) read
 
 -- an error of the platform file stops the reading
-pub platform_stops : (name bytes : List ℕ) (error : PlatformError) → (error ≡ platform.NoMemory) ⊎ (setup_read bytes ≡ Err error) → StopsReading (platform_found name bytes) (platform_fault error)
-platform_stops name bytes platform.NotToml why = elim why [ inl is ↦ absurd cc | inr read ↦ read_stops name bytes platform.NotToml read ]
-platform_stops name bytes (platform.Missing key) why = elim why [ inl is ↦ absurd cc | inr read ↦ read_stops name bytes (platform.Missing key) read ]
-platform_stops name bytes (platform.WrongType key) why = elim why [ inl is ↦ absurd cc | inr read ↦ read_stops name bytes (platform.WrongType key) read ]
-platform_stops name bytes (platform.Word key) why = elim why [ inl is ↦ absurd cc | inr read ↦ read_stops name bytes (platform.Word key) read ]
-platform_stops name bytes (platform.Range key number) why = elim why [ inl is ↦ absurd cc | inr read ↦ read_stops name bytes (platform.Range key number) read ]
-platform_stops name bytes (platform.Unknown key) why = elim why [ inl is ↦ absurd cc | inr read ↦ read_stops name bytes (platform.Unknown key) read ]
-platform_stops name bytes (platform.TooLarge events) why = elim why [ inl is ↦ absurd cc | inr read ↦ read_stops name bytes (platform.TooLarge events) read ]
-platform_stops name bytes (platform.Layout error) why = elim why [ inl is ↦ absurd cc | inr read ↦ read_stops name bytes (platform.Layout error) read ]
-platform_stops name bytes platform.NoMemory why = tt
+pub platform_stops : (bytes : List ℕ) (error : PlatformError) → (error ≡ platform.NoMemory) ⊎ (setup_read bytes ≡ Err error) → StopsReading (platform_found bytes) (platform_fault error)
+platform_stops bytes platform.NotToml why = elim why [ inl is ↦ absurd cc | inr read ↦ read_stops bytes platform.NotToml read ]
+platform_stops bytes (platform.Missing key) why = elim why [ inl is ↦ absurd cc | inr read ↦ read_stops bytes (platform.Missing key) read ]
+platform_stops bytes (platform.WrongType key) why = elim why [ inl is ↦ absurd cc | inr read ↦ read_stops bytes (platform.WrongType key) read ]
+platform_stops bytes (platform.Word key) why = elim why [ inl is ↦ absurd cc | inr read ↦ read_stops bytes (platform.Word key) read ]
+platform_stops bytes (platform.Range key number) why = elim why [ inl is ↦ absurd cc | inr read ↦ read_stops bytes (platform.Range key number) read ]
+platform_stops bytes (platform.Unknown key) why = elim why [ inl is ↦ absurd cc | inr read ↦ read_stops bytes (platform.Unknown key) read ]
+platform_stops bytes (platform.TooLarge events) why = elim why [ inl is ↦ absurd cc | inr read ↦ read_stops bytes (platform.TooLarge events) read ]
+platform_stops bytes (platform.Layout error) why = elim why [ inl is ↦ absurd cc | inr read ↦ read_stops bytes (platform.Layout error) read ]
+platform_stops bytes platform.NoMemory why = tt
 
 -- what is found by another name
 pub as_found : {A V : Type 0} (view : V → A) (found other : Finding A) (r : Result V Fault) → found ≡ other → IfOk r (λ value. other ≡ Ok (view value)) → IfOk r (λ value. found ≡ Ok (view value))
@@ -172,8 +115,6 @@ cause_first first next None failed (Images error) cause = tt
 cause_first first next (Some held) failed (Images error) cause = refused_first first next held (Images error) cause
 cause_first first next None failed (Schedule error) cause = tt
 cause_first first next (Some held) failed (Schedule error) cause = refused_first first next held (Schedule error) cause
-cause_first first next None failed (NotBuilt name) cause = tt
-cause_first first next (Some held) failed (NotBuilt name) cause = refused_first first next held (NotBuilt name) cause
 
 pub stop_first : {A B : Type 0} (first : FileMap → Finding A) (next : A → FileMap → Finding B) (files : Option FileMap) (failed : Type 0) (fault : Fault) → LoadCause first files failed fault → LoadCause (λ held. and_then (first held) (λ x. next x held)) files failed fault
 stop_first first next files failed (Refused refusal) cause = cause_first first next files failed refusal cause
@@ -209,8 +150,6 @@ cause_second first next steady None failed a (Images error) due cause = tt
 cause_second first next steady (Some held) failed a (Images error) due cause = refused_second first next held a (Images error) due cause
 cause_second first next steady None failed a (Schedule error) due cause = tt
 cause_second first next steady (Some held) failed a (Schedule error) due cause = refused_second first next held a (Schedule error) due cause
-cause_second first next steady None failed a (NotBuilt name) due cause = tt
-cause_second first next steady (Some held) failed a (NotBuilt name) due cause = refused_second first next held a (NotBuilt name) due cause
 
 pub stop_second : {A B : Type 0} (first : FileMap → Finding A) (next : A → FileMap → Finding B) → IsSteady first → (files : Option FileMap) (failed : Type 0) (a : A) (fault : Fault) → IsDue first files a → LoadCause (next a) files failed fault →
     LoadCause (λ held. and_then (first held) (λ x. next x held)) files failed fault
@@ -241,8 +180,6 @@ read_cause found None failed (Images error) stops = tt
 read_cause found (Some held) failed (Images error) stops = stops
 read_cause found None failed (Schedule error) stops = tt
 read_cause found (Some held) failed (Schedule error) stops = stops
-read_cause found None failed (NotBuilt name) stops = tt
-read_cause found (Some held) failed (NotBuilt name) stops = stops
 
 pub stop_cause : {A : Type 0} (found : Finding A) (files : Option FileMap) (failed : Type 0) (fault : Fault) → StopsReading found fault → LoadCause (λ _. found) files failed fault
 stop_cause found files failed (Refused refusal) stops = read_cause found files failed refusal stops
@@ -275,7 +212,6 @@ wider_cause judge (Some held) f g (TooLong name limit) wider cause = cause
 wider_cause judge files f g (Platform error) wider cause = cause
 wider_cause judge files f g (Images error) wider cause = cause
 wider_cause judge files f g (Schedule error) wider cause = cause
-wider_cause judge files f g (NotBuilt name) wider cause = cause
 
 pub wider_stop : {A : Type 0} (judge : FileMap → Finding A) (files : Option FileMap) (f g : Type 0) (fault : Fault) → (f → g) → LoadCause judge files f fault → LoadCause judge files g fault
 wider_stop judge files f g (Refused refusal) wider cause = wider_cause judge files f g refusal wider cause

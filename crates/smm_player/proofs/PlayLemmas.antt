@@ -1,35 +1,25 @@
 -- What a command's end comes to: status by status, fault by fault.
-use Rattle.std.proofs.Common.{◌≡◌, ◌≢◌, ℕ, ◌<◌, ◌⊎◌, Bool, true, false, List, [], ◌∷◌, length, All, Option, None, Some, Result, Ok, Err, IfSome, IfErr, OnOk, IsOk, refl, ap, sym, subst, ◌∙◌, arith, inl, inr}
-use Rattle.std.specs.Option.{option_map}
+use Rattle.std.proofs.Common.{◌≡◌, ◌≢◌, ℕ, ◌<◌, ◌⊎◌, true, List, Option, None, Some, Result, Ok, Err, IfSome, IfErr, OnOk, IsOk, refl, ap, sym, subst, ◌∙◌, arith, inl, inr}
+use Rattle.std.specs.Prelude.{IsTrue, IsSomeAnd, MatchOption}
 use Rattle.smm_base.specs.Sink.{appended, GainsPrefix}
 use Rattle.smm_base.specs.Store.{FileMap, ChangesOnly}
-use Rattle.save_state_map.specs.Images.{ImageContents}
-use Rattle.sync_words.specs.declared.label.Label.{Label}
-use Rattle.cpu_regs.specs.Registers.{Registers}
-use Rattle.cpu_table.specs.Data.{SetupData}
-use Rattle.one_processor.specs.Platform.{Platform as PlatformOf}
-use Rattle.one_processor.specs.Setups.{platform_of, is_built, is_elected, is_traditional, is_one_wave, are_built_handlers}
-use Rattle.std.proofs.lemmas.Bool.{and_parts, eqb-true}
-use Rattle.std.proofs.lemmas.List.Elements.{All-head}
-use Rattle.std.specs.Prelude.{◌==◌, ◌&&◌, IsTrue, IsSomeAnd, MatchOption}
-use Rattle.one_processor.specs.Starts.{first_registers, first_registers_of}
-use Rattle.one_processor.specs.Worlds.{last_image}
-use Rattle.one_processor.specs.Machine.{IsRun, beginning, machine_after, member, resumed_image}
+use Rattle.one_processor.specs.Setups.{is_built}
 use Rattle.smm_player.specs.declared.command.Step.{Step}
 use Rattle.smm_player.specs.declared.command.Command.{Command}
 use Rattle.smm_player.specs.declared.command.Command.TheVariants as command
 use Rattle.smm_player.specs.declared.fault.Fault.{Fault}
 use Rattle.smm_player.specs.declared.fault.Fault.TheVariants.{Refused, Write, Save, Memory}
 use Rattle.smm_player.specs.declared.refusal.Refusal.{Refusal}
-use Rattle.smm_player.specs.declared.refusal.Refusal.TheVariants.{Read, TooLong, Platform, Images, Schedule, NotBuilt}
+use Rattle.smm_player.specs.declared.refusal.Refusal.TheVariants.{Read, TooLong, Platform, Images, Schedule}
 use Rattle.smm_player.specs.Due.{Finding, and_then, plan_due, IsDue, RefusalCause}
 use Rattle.smm_player.specs.Ending.{GainsBoth, Tells, TellsOrRunsOut, Finishes, EndsReplay, UnlessSaved}
 use Rattle.smm_player.specs.Loading.{LoadCause}
-use Rattle.smm_player.specs.Outcome.{Outcome, image_saving, step_outcome, due, saved_name, IsSaved}
+use Rattle.smm_player.specs.Outcome.{Outcome, saving_of, step_outcome, due, saved_name, IsSaved}
 use Rattle.smm_player.specs.Performing.{Steps, Performs, StopsAt, WroteBefore}
-use Rattle.smm_player.specs.Plan.{Plan, IsPlayable, registers_of, labels_of, world_of, report_of}
+use Rattle.smm_player.specs.Plan.{Plan, IsPlayable}
 use Rattle.smm_player.specs.Play.{is_exit_status, IsDone, IsStepped, IsPlayed, WritesPart, WritesAll, IsFaulted, FailsOutside, RunsOut, UsageRunsOut, IsDueStatus, ChangesOnlySaved, Obeys}
 use Rattle.smm_player.specs.Refusal.{refusal_status, refusal_line, usage_line, memory_line}
+use Rattle.smm_player.specs.Replays.{replayed, report_of, AreImagesAfter, FollowsLabels}
 use Rattle.smm_player.proofs.LoadLemmas.{cause_first}
 
 -- the status of a refusal
@@ -46,19 +36,15 @@ refusal_status_is (TooLong name limit) = record { exits = refl; above = omega ar
 refusal_status_is (Platform error) = record { exits = refl; above = omega arith; not_7 = λ e. omega (arith, e); not_8 = λ e. omega (arith, e) }
 refusal_status_is (Images fault) = record { exits = refl; above = omega arith; not_7 = λ e. omega (arith, e); not_8 = λ e. omega (arith, e) }
 refusal_status_is (Schedule error) = record { exits = refl; above = omega arith; not_7 = λ e. omega (arith, e); not_8 = λ e. omega (arith, e) }
-refusal_status_is (NotBuilt name) = record { exits = refl; above = omega arith; not_7 = λ e. omega (arith, e); not_8 = λ e. omega (arith, e) }
 
 -- a status that is none of those of the refusals
-unfaulted : (n : ℕ) {P : Type 0} → (n ≢ 2) → (n ≢ 3) → (n ≢ 4) → (n ≢ 6) → (n ≢ 9) → (n ≡ 2) ⊎ (n ≡ 3) ⊎ (n ≡ 4) ⊎ (n ≡ 6) ⊎ (n ≡ 9) → P
-unfaulted n a b c d e is =
+unfaulted : (n : ℕ) {P : Type 0} → (n ≢ 2) → (n ≢ 3) → (n ≢ 4) → (n ≢ 6) → (n ≡ 2) ⊎ (n ≡ 3) ⊎ (n ≡ 4) ⊎ (n ≡ 6) → P
+unfaulted n a b c d is =
     elim is [
       | inl x ↦ absurd (a x)
       | inr is ↦ elim is [
         | inl x ↦ absurd (b x)
-        | inr is ↦ elim is [
-          | inl x ↦ absurd (c x)
-          | inr is ↦ elim is [ inl x ↦ absurd (d x) | inr x ↦ absurd (e x) ]
-        ]
+        | inr is ↦ elim is [ inl x ↦ absurd (c x) | inr x ↦ absurd (d x) ]
       ]
     ]
 
@@ -81,7 +67,6 @@ refusal_is_due judge held l (TooLong name limit) unfailed cause = cause
 refusal_is_due judge held l (Platform error) unfailed cause = cause
 refusal_is_due judge held l (Images fault) unfailed cause = cause
 refusal_is_due judge held l (Schedule error) unfailed cause = cause
-refusal_is_due judge held l (NotBuilt name) unfailed cause = cause
 
 refusal_due : (judge : FileMap → Finding Outcome) (files : Option FileMap) (l : Type 0) (refusal : Refusal) → RefusalCause judge files l refusal → (l → ⊥) → IfSome files (λ held. IsDueStatus (judge held) (refusal_status refusal))
 refusal_due judge None l refusal cause unfailed = tt
@@ -117,7 +102,7 @@ at_0 asked files files' l w s before after done played others = record {
   not_usage = λ e. omega (arith, e);
   done = λ _. done;
   played = λ _. played;
-  faulted = λ is. unfaulted 0 (λ e. omega (arith, e)) (λ e. omega (arith, e)) (λ e. omega (arith, e)) (λ e. omega (arith, e)) (λ e. omega (arith, e)) is;
+  faulted = λ is. unfaulted 0 (λ e. omega (arith, e)) (λ e. omega (arith, e)) (λ e. omega (arith, e)) (λ e. omega (arith, e)) is;
   is_due = λ _. outcome_due (due asked) files done.outcome 0 done.is_due (inl refl);
   complete = λ _ _ _. complete_with (due asked) files 0 (inl refl);
   outside = λ e. absurd (omega (arith, e));
@@ -157,7 +142,7 @@ at_7 asked files files' l w s before after fails others = record {
   not_usage = λ e. omega (arith, e);
   done = λ e. absurd (omega (arith, e));
   played = λ e. absurd (omega (arith, e));
-  faulted = λ is. unfaulted 7 (λ e. omega (arith, e)) (λ e. omega (arith, e)) (λ e. omega (arith, e)) (λ e. omega (arith, e)) (λ e. omega (arith, e)) is;
+  faulted = λ is. unfaulted 7 (λ e. omega (arith, e)) (λ e. omega (arith, e)) (λ e. omega (arith, e)) (λ e. omega (arith, e)) is;
   is_due = λ _. outside_due asked files w s (files' ≡ files) before after fails;
   complete = λ _ writes saves. absurd (elim fails [ inl x ↦ writes x.0 | inr x ↦ saves x.0 ]);
   outside = λ _. fails;
@@ -172,7 +157,7 @@ at_8 asked files files' l w s before after out stay others = record {
   not_usage = λ e. omega (arith, e);
   done = λ e. absurd (omega (arith, e));
   played = λ e. absurd (omega (arith, e));
-  faulted = λ is. unfaulted 8 (λ e. omega (arith, e)) (λ e. omega (arith, e)) (λ e. omega (arith, e)) (λ e. omega (arith, e)) (λ e. omega (arith, e)) is;
+  faulted = λ is. unfaulted 8 (λ e. omega (arith, e)) (λ e. omega (arith, e)) (λ e. omega (arith, e)) (λ e. omega (arith, e)) is;
   is_due = λ _. memory_due (due asked) files;
   complete = λ _ _ _. complete_with (due asked) files 8 (inr refl);
   outside = λ e. absurd (omega (arith, e));
@@ -200,8 +185,8 @@ refused_runs_out asked files l before middle after refusal cause is both =
     let P : Option (List ℕ) → Type 0 = λ x. GainsBoth x after (refusal_line refusal) memory_line in
     inr (refusal_line refusal, inr (refusal, cause, refl), subst P is both)
 
--- What was asked, at a fault. The write of its line is a later part of the call.
-pub fault_obeys : (asked : Command) (files files' : Option FileMap) (l v f w s : Type 0) → (v → w) → (f → w) → (before middle after : Option (List ℕ)) (n : ℕ) (fault : Fault) → StopsAt asked files l v s fault → WroteBefore asked files before middle fault →
+-- What was asked, at a fault.
+fault_obeys : (asked : Command) (files files' : Option FileMap) (l v f w s : Type 0) → (v → w) → (f → w) → (before middle after : Option (List ℕ)) (n : ℕ) (fault : Fault) → StopsAt asked files l v s fault → WroteBefore asked files before middle fault →
     UnlessSaved (files' ≡ files) fault → ChangesOnly (saved_name asked) files files' → Finishes f middle after n fault → Obeys asked files files' l w s before after n
 fault_obeys asked files files' l v f w s early late before middle after n (Refused refusal) stops wrote stay others ends =
     let P : ℕ → Type 0 = λ m. Obeys asked files files' l w s before after m in
@@ -231,14 +216,6 @@ memory_obeys asked files l w s before after line = at_8 asked files files l w s 
 
 -- a command that was done
 
-saved_as : (name : List ℕ) (files : Option FileMap) (image : ImageContents) (last : Option ImageContents) → last ≡ Some image → IsSaved (option_map (image_saving name) last) files → IsSaved (Some (image_saving name image)) files
-saved_as name files image last is saved = let P : Option ImageContents → Type 0 = λ x. IsSaved (option_map (image_saving name) x) files in subst P is saved
-
-one_of : (images : List ImageContents) → length images ≡ 1 → (image : ImageContents) × (images ≡ image ∷ [])
-one_of [] is = absurd (omega (arith, is))
-one_of (image ∷ []) is = (image, refl)
-one_of (image ∷ (other ∷ others)) is = absurd (omega (arith, is))
-
 outcome_of_plan : (names : Step) (files : Option FileMap) (plan : Plan) → IsDue (plan_due names) files plan → IsDue (due (command.Step names)) files (step_outcome names plan)
 outcome_of_plan names None plan is = tt
 outcome_of_plan names (Some held) plan is = ap (λ r. and_then r (λ p. Ok (step_outcome names p))) is
@@ -252,47 +229,36 @@ step_done names files files' before after steps = record {
   saved = steps.saved;
 }
 
--- and a play, by what holds of every schedule on a platform that is built
-abbrev RunOf : Plan → Type 0
-RunOf p = IsRun (platform_of p.setup) (beginning (registers_of p) p.images) (labels_of p)
+-- and a play, by what follows on a platform that the core for one processor plays
+abbrev pub Follows : Type 0
+Follows = (p : Plan) → IsPlayable p → IsTrue (is_built p.setup) → FollowsLabels p
 
-abbrev LastOf : Plan → Type 0
-LastOf p = last_image (world_of p) 0 ≡ Some (member (machine_after (platform_of p.setup) (beginning (registers_of p) p.images) (labels_of p)) 0).last
+step_played : (names : Step) (files files' : Option FileMap) (before after : Option (List ℕ)) → Steps names files files' before after → Follows → IsStepped names files files' before after
+step_played names files files' before after steps follows = record {
+  plan = steps.plan;
+  playable = steps.playable;
+  is_due = steps.is_due;
+  written = steps.written;
+  images = steps.images;
+  saved = steps.saved;
+  follows = follows steps.plan steps.playable;
+}
 
-abbrev Resumed : Type 0
-Resumed = (p : PlatformOf) (registers : Registers) (image : ImageContents) (es : List (ℕ × Label)) → resumed_image p 0 registers image es ≡ (member (machine_after p (beginning (registers ∷ []) (image ∷ [])) es) 0).last
+done_obeys : (asked : Command) (files files' : Option FileMap) (l w s : Type 0) (before after : Option (List ℕ)) → Performs asked files files' before after → ChangesOnly (saved_name asked) files files' → Follows →
+    Obeys asked files files' l w s before after 0
+done_obeys (command.Step names) files files' l w s before after steps others follows =
+    at_0 (command.Step names) files files' l w s before after (step_done names files files' before after steps) (step_played names files files' before after steps follows) others
 
-abbrev KindStays : Type 0
-KindStays = (p : PlatformOf) (i : ℕ) (registers : Registers) (image : ImageContents) (es : List (ℕ × Label)) → (resumed_image p i registers image es).kind ≡ image.kind
-
-step_played : (names : Step) (files files' : Option FileMap) (before after : Option (List ℕ)) (steps : Steps names files files' before after) → length steps.plan.images ≡ 1 → RunOf steps.plan → LastOf steps.plan → Resumed → KindStays →
-    IsStepped names files files' before after
-step_played names files files' before after steps count runs last resumed kinds =
-    let p = steps.plan in
-    let single = one_of p.images count in
-    let image = single.0 in
-    let registers = first_registers_of p.setup 0 image in
-    let es = labels_of p in
-    let machine = λ (images : List ImageContents). (member (machine_after (platform_of p.setup) (beginning (first_registers p.setup images) images) es) 0).last in
-    let all_kinds : All (λ i. i.kind ≡ p.setup.kind) (image ∷ []) = let P : List ImageContents → Type 0 = λ xs. All (λ i. i.kind ≡ p.setup.kind) xs in subst P single.1 steps.playable.images.kind in
-    record {
-      plan = p;
-      playable = steps.playable;
-      is_due = steps.is_due;
-      written = steps.written;
-      is_run = runs;
-      image = image;
-      only = single.1;
-      saved = saved_as names.after files' (resumed_image (platform_of p.setup) 0 registers image es) (last_image (world_of p) 0)
-          (last ∙ ap (λ xs. Some (machine xs)) single.1 ∙ ap Some (sym (resumed (platform_of p.setup) registers image es))) steps.saved;
-      kind = kinds (platform_of p.setup) 0 registers image es ∙ All-head (λ i. i.kind ≡ p.setup.kind) image [] all_kinds;
-    }
-
-pub done_obeys : (asked : Command) (files files' : Option FileMap) (l w s : Type 0) (before after : Option (List ℕ)) → Performs asked files files' before after → ChangesOnly (saved_name asked) files files' →
-    ((plan : Plan) → IsPlayable plan → length plan.images ≡ 1) → ((plan : Plan) → IsPlayable plan → RunOf plan) → ((plan : Plan) → IsPlayable plan → LastOf plan) → Resumed → KindStays → Obeys asked files files' l w s before after 0
-done_obeys (command.Step names) files files' l w s before after steps others counts runs lasts resumed kinds =
-    at_0 (command.Step names) files files' l w s before after (step_done names files files' before after steps)
-    (step_played names files files' before after steps (counts steps.plan steps.playable) (runs steps.plan steps.playable) (lasts steps.plan steps.playable) resumed kinds) others
+-- What was asked, once it was done or a fault came. The write of the fault's line is a later part of the call.
+pub command_obeys : {T : Type 0} (r : Result T Fault) (asked : Command) (files files' : Option FileMap) (l v f w s : Type 0) → (v → w) → (f → w) → (before middle after : Option (List ℕ)) (n : ℕ) →
+    OnOk r (Performs asked files files' before middle) → IfErr r (StopsAt asked files l v s) → IfErr r (WroteBefore asked files before middle) → IfErr r (UnlessSaved (files' ≡ files)) →
+    ChangesOnly (saved_name asked) files files' → Follows → OnOk r ((n ≡ 0) × (after ≡ middle)) → IfErr r (Finishes f middle after n) → Obeys asked files files' l w s before after n
+command_obeys (Ok x) asked files files' l v f w s early late before middle after n done stops wrote stay others follows ends finishes =
+    let P : Option (List ℕ) → Type 0 = λ x. Performs asked files files' before x in
+    let Q : ℕ → Type 0 = λ m. Obeys asked files files' l w s before after m in
+    subst Q (sym ends.0) (done_obeys asked files files' l w s before after (subst P (sym ends.1) done) others follows)
+command_obeys (Err fault) asked files files' l v f w s early late before middle after n done stops wrote stay others follows ends finishes =
+    fault_obeys asked files files' l v f w s early late before middle after n fault stops wrote stay others finishes
 
 -- a step's faults
 
@@ -337,10 +303,10 @@ replay_wrote (Err Save) names files w s before after p is ends = (step_outcome n
 replay_wrote (Err Memory) names files w s before after p is ends = inr (step_outcome names p, outcome_of_plan names files p is, ends)
 
 -- what a replay that came to its end has done
-pub replay_done : {T : Type 0} (r : Result T Fault) (names : Step) (files files' : Option FileMap) (before after : Option (List ℕ)) (p : Plan) → IsPlayable p → IsDue (plan_due names) files p → OnOk r (after ≡ appended before (report_of p)) →
-    OnOk r (IsSaved (option_map (image_saving names.after) (last_image (world_of p) 0)) files') → OnOk r (Performs (command.Step names) files files' before after)
-replay_done (Ok x) names files files' before after p playable is written saved = record { plan = p; playable = playable; is_due = is; written = written; saved = saved }
-replay_done (Err fault) names files files' before after p playable is written saved = tt
+pub replay_done : {T : Type 0} (r : Result T Fault) (names : Step) (files files' : Option FileMap) (before after : Option (List ℕ)) (p : Plan) → IsPlayable p → IsDue (plan_due names) files p → OnOk r (AreImagesAfter p (replayed p).images) →
+    OnOk r (after ≡ appended before (report_of p)) → OnOk r (IsSaved (Some (saving_of names p)) files') → OnOk r (Performs (command.Step names) files files' before after)
+replay_done (Ok x) names files files' before after p playable is images written saved = record { plan = p; playable = playable; is_due = is; written = written; images = images; saved = saved }
+replay_done (Err fault) names files files' before after p playable is images written saved = tt
 
 pub unsaved_from : {T : Type 0} (r : Result T Fault) (P Q : Type 0) → (P → Q) → IfErr r (UnlessSaved P) → IfErr r (UnlessSaved Q)
 unsaved_from (Ok x) P Q step holds = tt
@@ -357,7 +323,7 @@ pub record Plays (o : Option Command) (files files' : Option FileMap) (l w s : T
   pub usage_only : n ≡ 1 → o ≡ None
   pub usage : o ≡ None → (n ≡ 1) ⊎ (n ≡ 8)
   pub usage_told : n ≡ 1 → Tells w before after usage_line
-  pub faulted : (n ≡ 2) ⊎ (n ≡ 3) ⊎ (n ≡ 4) ⊎ (n ≡ 6) ⊎ (n ≡ 9) → IsSomeAnd o (λ asked. IsFaulted asked files l w before after n)
+  pub faulted : (n ≡ 2) ⊎ (n ≡ 3) ⊎ (n ≡ 4) ⊎ (n ≡ 6) → IsSomeAnd o (λ asked. IsFaulted asked files l w before after n)
   pub is_due : (l → ⊥) → IfSome o (λ asked. IfSome files (λ held. IsDueStatus (due asked held) n))
   pub complete : (l → ⊥) → (w → ⊥) → (s → ⊥) → IfSome o (λ asked. IfSome files (λ held. IsOk (due asked held) → (n ≡ 0) ⊎ (n ≡ 8)))
   pub outside : n ≡ 7 → IsSomeAnd o (λ asked. FailsOutside asked files w s (files' ≡ files) before after)
@@ -394,7 +360,7 @@ usage_at_1 files l w s before after line = record {
   usage_only = λ _. refl;
   usage = λ _. inl refl;
   usage_told = λ _. line;
-  faulted = λ is. unfaulted 1 (λ e. omega (arith, e)) (λ e. omega (arith, e)) (λ e. omega (arith, e)) (λ e. omega (arith, e)) (λ e. omega (arith, e)) is;
+  faulted = λ is. unfaulted 1 (λ e. omega (arith, e)) (λ e. omega (arith, e)) (λ e. omega (arith, e)) (λ e. omega (arith, e)) is;
   is_due = λ _. tt;
   complete = λ _ _ _. tt;
   outside = λ e. absurd (omega (arith, e));
@@ -411,7 +377,7 @@ usage_at_8 files l w s before after out = record {
   usage_only = λ e. absurd (omega (arith, e));
   usage = λ _. inr refl;
   usage_told = λ e. absurd (omega (arith, e));
-  faulted = λ is. unfaulted 8 (λ e. omega (arith, e)) (λ e. omega (arith, e)) (λ e. omega (arith, e)) (λ e. omega (arith, e)) (λ e. omega (arith, e)) is;
+  faulted = λ is. unfaulted 8 (λ e. omega (arith, e)) (λ e. omega (arith, e)) (λ e. omega (arith, e)) (λ e. omega (arith, e)) is;
   is_due = λ _. tt;
   complete = λ _ _ _. tt;
   outside = λ e. absurd (omega (arith, e));
@@ -438,18 +404,6 @@ memory_plays o files l w s before after n is line = let P : ℕ → Type 0 = λ 
 -- nothing of the store changed
 pub inputs_others : (name : List ℕ) (files files' : Option FileMap) → files' ≡ files → ChangesOnly name files files'
 inputs_others name files files' stay = let P : Option FileMap → Type 0 = λ fs. ChangesOnly name files fs in subst P (sym stay) (changes_nothing name files)
-
--- each platform that is built has one processor
-one_processor : (s : SetupData) → IsTrue (is_built s) → s.processors ≡ 1
-one_processor s built =
-    let a = and_parts (s.processors == 1 && is_elected s.policy && is_traditional s.mode && is_one_wave s.waves) (are_built_handlers s.handlers) built in
-    let b = and_parts (s.processors == 1 && is_elected s.policy && is_traditional s.mode) (is_one_wave s.waves) a.0 in
-    let e = and_parts (s.processors == 1 && is_elected s.policy) (is_traditional s.mode) b.0 in
-    let f = and_parts (s.processors == 1) (is_elected s.policy) e.0 in
-    eqb-true s.processors 1 f.0
-
-pub one_image : (p : Plan) → IsPlayable p → length p.images ≡ 1
-one_image p playable = playable.images.count ∙ one_processor p.setup playable.built
 
 -- where an outcome is due and nothing failed, all is done
 pub all_is_done : (o : Option Command) (held : FileMap) (n : ℕ) → IsSomeAnd o (λ asked. IsOk (due asked held)) → IfSome o (λ asked. IsOk (due asked held) → (n ≡ 0) ⊎ (n ≡ 8)) → (n ≡ 0) ⊎ (n ≡ 8)

@@ -11,10 +11,6 @@ use Rattle.smm_player.specs.Report.{IsBuffered, event_lines}
 pub buffered_start : (before : Option (List ℕ)) (buffer : List ℕ) → IsBuffered before before buffer buffer
 buffered_start before buffer = record { taken = []; took = sym (appended-nil before); joins = refl }
 
--- the whole buffer is taken
-pub buffered_flush : (before now : Option (List ℕ)) (buffer : List ℕ) → now ≡ appended before buffer → IsBuffered before now [] buffer
-buffered_flush before now buffer took = record { taken = buffer; took = took; joins = sym (append-nil buffer) }
-
 -- a text more, of which the sink takes a part together with what was in the buffer
 pub buffered_further : (first second third : Option (List ℕ)) (buffer buffer' text more : List ℕ) → IsBuffered first second buffer text → IsBuffered second third buffer' (buffer ++ more) → IsBuffered first third buffer' (text ++ more)
 buffered_further first second third buffer buffer' text more held further = record {
@@ -35,11 +31,6 @@ pub buffered_gained : (first second : Option (List ℕ)) (buffer text : List ℕ
 buffered_gained first second buffer text held =
     let P : List ℕ → Type 0 = λ xs. GainsPrefix first second xs in
     subst P (sym held.joins) (GainsPrefix-longer first second held.taken buffer (GainsPrefix-whole first second held.taken held.took))
-
--- the sink takes the whole buffer, and so has the text
-pub buffered_end : (first second third : Option (List ℕ)) (buffer text : List ℕ) → IsBuffered first second buffer text → third ≡ appended second buffer → third ≡ appended first text
-buffered_end first second third buffer text held took =
-    took ∙ ap (λ bytes. appended bytes buffer) held.took ∙ appended-append first held.taken buffer ∙ ap (appended first) (sym held.joins)
 
 -- a front part of the first events' lines is one of all the events' lines
 pub lines_prefix : (before after : Option (List ℕ)) (processors n : ℕ) (events : List Event) → GainsPrefix before after (event_lines processors (take n events)) → GainsPrefix before after (event_lines processors events)

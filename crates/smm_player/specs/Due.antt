@@ -12,12 +12,11 @@ use Rattle.cpu_table.specs.Data.{SetupData}
 use Rattle.platform_file.specs.Walk.{setup_read}
 use Rattle.schedule_file.specs.Schedule.{schedule_of}
 use Rattle.smbase_reloc.specs.declared.error.RelocError.{RelocError}
-use Rattle.one_processor.specs.Setups.{is_built}
-use Rattle.one_processor.specs.Starts.{start_refusal}
+use Rattle.rendezvous_core.specs.Starts.{start_refusal}
 use Rattle.smm_player.specs.declared.command.Step.{Step}
 use Rattle.smm_player.specs.declared.images.ImagesFault.TheVariants as fault
 use Rattle.smm_player.specs.declared.refusal.Refusal.{Refusal}
-use Rattle.smm_player.specs.declared.refusal.Refusal.TheVariants.{Read, TooLong, Platform, Images, Schedule, NotBuilt}
+use Rattle.smm_player.specs.declared.refusal.Refusal.TheVariants.{Read, TooLong, Platform, Images, Schedule}
 use Rattle.smm_player.specs.Plan.{Plan, plan}
 
 -- what is found, or the refusal at which the work stops
@@ -53,13 +52,9 @@ loaded limit name (Some bytes) = if nat_lt limit (length bytes) then Err (TooLon
 abbrev pub file_due : {A : Type 0} → ℕ → List ℕ → (List ℕ → Finding A) → FileMap → Finding A
 file_due limit name read held = and_then (loaded limit name (held name)) read
 
--- a setup that is built
-abbrev pub if_built : List ℕ → SetupData → Finding SetupData
-if_built name setup = if is_built setup then Ok setup else Err (NotBuilt name)
-
--- the setup of a platform file: it is read before it is asked whether it is built
-abbrev pub platform_found : List ℕ → List ℕ → Finding SetupData
-platform_found name bytes = and_then (or_refusal Platform (setup_read bytes)) (if_built name)
+-- the setup of a platform file
+abbrev pub platform_found : List ℕ → Finding SetupData
+platform_found bytes = or_refusal Platform (setup_read bytes)
 
 -- two images are of one map
 abbrev pub kinds_agree : MapKind → MapKind → Bool
@@ -96,7 +91,7 @@ schedule_found processors bytes = or_refusal Schedule (schedule_of processors by
 
 -- what is found in each input file of a step
 abbrev pub platform_due : Step → FileMap → Finding SetupData
-platform_due names = file_due platform_limit names.platform (platform_found names.platform)
+platform_due names = file_due platform_limit names.platform platform_found
 
 abbrev pub images_due : Step → SetupData → FileMap → Finding (List ImageContents)
 images_due names setup = file_due images_limit names.images (images_found setup.kind setup.processors)
@@ -146,4 +141,3 @@ RefusalCause judge files failed (TooLong name limit) = MatchOption files failed 
 RefusalCause judge files failed (Platform error) = IfSome files (λ held. judge held ≡ Err (Platform error))
 RefusalCause judge files failed (Images error) = IfSome files (λ held. judge held ≡ Err (Images error))
 RefusalCause judge files failed (Schedule error) = IfSome files (λ held. judge held ≡ Err (Schedule error))
-RefusalCause judge files failed (NotBuilt name) = IfSome files (λ held. judge held ≡ Err (NotBuilt name))

@@ -9,4 +9,6 @@ pub mod Performing
 pub mod Plan
 pub mod Play
 pub mod Refusal
+pub mod ReplayInside
+pub mod Replays
 pub mod Report

@@ -1,14 +1,15 @@
 -- What a command leaves: the bytes that it writes, and what it saves.
 use Rattle.std.specs.Prelude.{ℕ, ◌≡◌, List, Option, Some, IfSome, Ok}
-use Rattle.std.specs.Option.{option_map}
 use Rattle.smm_base.specs.Store.{FileMap}
 use Rattle.save_state_map.specs.Images.{ImageContents}
-use Rattle.one_processor.specs.Worlds.{last_image}
+use Rattle.image_file.specs.Spelling.{spelling}
+use Rattle.smm_base.specs.declared.kinds.MapKind.{MapKind}
 use Rattle.smm_player.specs.declared.command.Step.{Step}
 use Rattle.smm_player.specs.declared.command.Command.{Command}
 use Rattle.smm_player.specs.declared.command.Command.TheVariants as command
 use Rattle.smm_player.specs.Due.{Finding, and_then, plan_due}
-use Rattle.smm_player.specs.Plan.{Plan, world_of, report_of, file_of}
+use Rattle.smm_player.specs.Plan.{Plan}
+use Rattle.smm_player.specs.Replays.{replayed, report_of}
 
 -- a content under a name
 pub record Saving : Type 0 where
@@ -20,13 +21,17 @@ pub record Outcome : Type 0 where
   pub bytes : List ℕ
   pub saving : Option Saving
 
--- an image is saved as the image file of it
-abbrev pub image_saving : List ℕ → ImageContents → Saving
-image_saving name image = record { name = name; content = file_of image }
+-- images are saved as the image file of them
+abbrev pub images_saving : List ℕ → MapKind → List ImageContents → Saving
+images_saving name kind images = record { name = name; content = spelling kind images }
 
--- a step writes the report of the replay, and saves the image that the processor last resumed from
+-- what a step saves: the images that the processors last resumed from, in the platform's kind
+abbrev pub saving_of : Step → Plan → Saving
+saving_of names p = images_saving names.after p.setup.kind (replayed p).images
+
+-- a step writes the report of the replay, and saves the images after
 abbrev pub step_outcome : Step → Plan → Outcome
-step_outcome names p = record { bytes = report_of p; saving = option_map (image_saving names.after) (last_image (world_of p) 0) }
+step_outcome names p = record { bytes = report_of p; saving = Some (saving_of names p) }
 
 -- what is due for a command and the held files: its outcome, or the first refusal in the order of work
 abbrev pub due : Command → FileMap → Finding Outcome

@@ -1,26 +1,26 @@
 -- How a command comes to its end, or stops at a fault.
-use Rattle.std.specs.Prelude.{ℕ, ◌≡◌, ◌⊎◌, List, Option}
-use Rattle.std.specs.Option.{option_map}
+use Rattle.std.specs.Prelude.{ℕ, ◌≡◌, ◌⊎◌, List, Option, Some}
 use Rattle.smm_base.specs.Sink.{appended}
 use Rattle.smm_base.specs.Store.{FileMap}
-use Rattle.one_processor.specs.Worlds.{last_image}
 use Rattle.smm_player.specs.declared.command.Step.{Step}
 use Rattle.smm_player.specs.declared.command.Command.{Command}
 use Rattle.smm_player.specs.declared.command.Command.TheVariants as command
 use Rattle.smm_player.specs.declared.fault.Fault.{Fault}
 use Rattle.smm_player.specs.declared.fault.Fault.TheVariants.{Refused, Write, Save, Memory}
 use Rattle.smm_player.specs.Due.{plan_due, IsDue, RefusalCause}
-use Rattle.smm_player.specs.Outcome.{image_saving, due, IsSaved}
-use Rattle.smm_player.specs.Plan.{Plan, IsPlayable, world_of, report_of}
+use Rattle.smm_player.specs.Outcome.{saving_of, due, IsSaved}
+use Rattle.smm_player.specs.Plan.{Plan, IsPlayable}
 use Rattle.smm_player.specs.Play.{WritesPart, WritesAll}
+use Rattle.smm_player.specs.Replays.{replayed, report_of, AreImagesAfter}
 
--- what a step has done: the plan that is due, the report of its replay, and the saved image
+-- what a step has done: the plan that is due, the report of its replay, and the saved images
 pub record Steps (names : Step) (files files' : Option FileMap) (before after : Option (List ℕ)) : Type 0 where
   pub plan : Plan
   pub playable : IsPlayable plan
   pub is_due : IsDue (plan_due names) files plan
   pub written : after ≡ appended before (report_of plan)
-  pub saved : IsSaved (option_map (image_saving names.after) (last_image (world_of plan) 0)) files'
+  pub images : AreImagesAfter plan (replayed plan).images
+  pub saved : IsSaved (Some (saving_of names plan)) files'
 
 abbrev pub Performs : Command → Option FileMap → Option FileMap → Option (List ℕ) → Option (List ℕ) → Type 0
 Performs (command.Step names) files files' before after = Steps names files files' before after

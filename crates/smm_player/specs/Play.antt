@@ -1,25 +1,23 @@
 -- What `play` promises at each exit status.
-use Rattle.std.specs.Prelude.{ℕ, ◌≡◌, ◌≢◌, ◌==◌, ◌⊎◌, Bool, ◌||◌, List, [], ◌∷◌, Option, None, Some, Ok, Err, IsOk, IfSome, true}
+use Rattle.std.specs.Prelude.{ℕ, ◌≡◌, ◌≢◌, ◌==◌, ◌⊎◌, Bool, ◌||◌, List, Option, None, Some, Ok, Err, IsOk, IfSome, IsTrue, true}
 use Rattle.smm_base.specs.Sink.{appended, GainsPrefix}
 use Rattle.smm_base.specs.Store.{FileMap, ChangesOnly}
-use Rattle.save_state_map.specs.Images.{ImageContents}
-use Rattle.one_processor.specs.Machine.{IsRun, beginning, resumed_image}
-use Rattle.one_processor.specs.Setups.{platform_of}
-use Rattle.one_processor.specs.Starts.{first_registers_of}
+use Rattle.one_processor.specs.Setups.{is_built}
 use Rattle.smm_player.specs.declared.command.Step.{Step}
 use Rattle.smm_player.specs.declared.command.Command.{Command}
 use Rattle.smm_player.specs.declared.command.Command.TheVariants as command
 use Rattle.smm_player.specs.declared.refusal.Refusal.{Refusal}
 use Rattle.smm_player.specs.Due.{Finding, plan_due, IsDue, RefusalCause}
 use Rattle.smm_player.specs.Ending.{GainsBoth, Tells}
-use Rattle.smm_player.specs.Outcome.{Outcome, image_saving, due, saved_name, IsSaved}
-use Rattle.smm_player.specs.Plan.{Plan, IsPlayable, registers_of, labels_of, report_of}
+use Rattle.smm_player.specs.Outcome.{Outcome, saving_of, due, saved_name, IsSaved}
+use Rattle.smm_player.specs.Plan.{Plan, IsPlayable}
 use Rattle.smm_player.specs.Refusal.{refusal_status, refusal_line, usage_line, memory_line}
+use Rattle.smm_player.specs.Replays.{replayed, report_of, AreImagesAfter, FollowsLabels}
 
 -- done, usage, a file that is no platform, an image file that doesn't serve, a file that is no schedule, a file that isn't read,
--- a failed write or save, want of memory, a part that isn't built
+-- a failed write or save, want of memory
 abbrev pub is_exit_status : ℕ → Bool
-is_exit_status n = (n == 0) || (n == 1) || (n == 2) || (n == 3) || (n == 4) || (n == 6) || (n == 7) || (n == 8) || (n == 9)
+is_exit_status n = (n == 0) || (n == 1) || (n == 2) || (n == 3) || (n == 4) || (n == 6) || (n == 7) || (n == 8)
 
 -- status 0: the outcome that is due was written and saved
 pub record IsDone (asked : Command) (files files' : Option FileMap) (before after : Option (List ℕ)) : Type 0 where
@@ -28,19 +26,17 @@ pub record IsDone (asked : Command) (files files' : Option FileMap) (before afte
   pub written : after ≡ appended before outcome.bytes
   pub saved : IsSaved outcome.saving files'
 
--- A step was done: the plan that is due, the report of its replay, whose labels are a run of the rendezvous machine, and
--- the saved image, which by the labels is the one that the processor last resumed from. It is of the platform's kind.
--- Each platform that is built has one processor, and so there is one image.
+-- A step was done: the plan that is due, the report of its replay, and under AFTER the image that each processor last resumed
+-- from, in the platform's kind. On a platform that the core for one processor plays the report's labels are a run of the
+-- rendezvous machine, and the image follows from them.
 pub record IsStepped (names : Step) (files files' : Option FileMap) (before after : Option (List ℕ)) : Type 0 where
   pub plan : Plan
   pub playable : IsPlayable plan
   pub is_due : IsDue (plan_due names) files plan
   pub written : after ≡ appended before (report_of plan)
-  pub is_run : IsRun (platform_of plan.setup) (beginning (registers_of plan) plan.images) (labels_of plan)
-  pub image : ImageContents
-  pub only : plan.images ≡ image ∷ []
-  pub saved : IsSaved (Some (image_saving names.after (resumed_image (platform_of plan.setup) 0 (first_registers_of plan.setup 0 image) image (labels_of plan)))) files'
-  pub kind : (resumed_image (platform_of plan.setup) 0 (first_registers_of plan.setup 0 image) image (labels_of plan)).kind ≡ plan.setup.kind
+  pub images : AreImagesAfter plan (replayed plan).images
+  pub saved : IsSaved (Some (saving_of names plan)) files'
+  pub follows : IsTrue (is_built plan.setup) → FollowsLabels plan
 
 -- what each command has done
 abbrev pub IsPlayed : Command → Option FileMap → Option FileMap → Option (List ℕ) → Option (List ℕ) → Type 0
@@ -98,7 +94,7 @@ pub record Obeys (asked : Command) (files files' : Option FileMap) (load_failed 
   pub not_usage : status ≢ 1
   pub done : status ≡ 0 → IsDone asked files files' before after
   pub played : status ≡ 0 → IsPlayed asked files files' before after
-  pub faulted : (status ≡ 2) ⊎ (status ≡ 3) ⊎ (status ≡ 4) ⊎ (status ≡ 6) ⊎ (status ≡ 9) → IsFaulted asked files load_failed write_failed before after status
+  pub faulted : (status ≡ 2) ⊎ (status ≡ 3) ⊎ (status ≡ 4) ⊎ (status ≡ 6) → IsFaulted asked files load_failed write_failed before after status
   pub is_due : (load_failed → ⊥) → IfSome files (λ held. IsDueStatus (due asked held) status)
   pub complete : (load_failed → ⊥) → (write_failed → ⊥) → (save_failed → ⊥) → IfSome files (λ held. IsOk (due asked held) → (status ≡ 0) ⊎ (status ≡ 8))
   pub outside : status ≡ 7 → FailsOutside asked files write_failed save_failed (files' ≡ files) before after

@@ -8,7 +8,7 @@ use Rattle.smbase_reloc.specs.Words.{refusal_text as relocation_text}
 use Rattle.smm_player.specs.declared.images.ImagesFault.{ImagesFault}
 use Rattle.smm_player.specs.declared.images.ImagesFault.TheVariants.{File, KindDiffers, CountDiffers, NotRelocated}
 use Rattle.smm_player.specs.declared.refusal.Refusal.{Refusal}
-use Rattle.smm_player.specs.declared.refusal.Refusal.TheVariants.{Read, TooLong, Platform, Images, Schedule, NotBuilt}
+use Rattle.smm_player.specs.declared.refusal.Refusal.TheVariants.{Read, TooLong, Platform, Images, Schedule}
 
 -- the exit status of a refused input file
 abbrev pub refusal_status : Refusal → ℕ
@@ -17,7 +17,6 @@ refusal_status (TooLong name limit) = 6
 refusal_status (Platform error) = 2
 refusal_status (Images fault) = 3
 refusal_status (Schedule error) = 4
-refusal_status (NotBuilt name) = 9
 
 -- why the image file doesn't serve
 abbrev pub images_fault_text : ImagesFault → List ℕ
@@ -33,7 +32,6 @@ fault_text (TooLong name limit) = codes "fault too-long " ++ name ++ codes " " +
 fault_text (Platform error) = codes "fault platform " ++ platform_error_text error
 fault_text (Images fault) = codes "fault images " ++ images_fault_text fault
 fault_text (Schedule error) = codes "fault schedule " ++ schedule_error_text error
-fault_text (NotBuilt name) = codes "fault not-built " ++ name
 
 -- the line that tells it, with the line end 0AH
 unfoldable pub refusal_line : Refusal → List ℕ

@@ -1,4 +1,4 @@
-ghost use Rattle.std.specs.Prelude.{◌≡◌};
+ghost use Rattle.std.specs.Prelude.{◌≡◌, IfErr, OnOk};
 ghost use Rattle.smm_base.specs.Calls.{Leads};
 ghost use Rattle.smm_base.specs.Faults.{Rose};
 ghost use Rattle.smm_base.specs.Sink.{GainsPrefix};
@@ -45,15 +45,17 @@ fn tell_refusal<K: Sink>(alloc: Global, refusal: &Refusal, out: &mut K) -> u8
     }
 }
 
-// Ends a command at a fault, and answers the exit status.
-pub(crate) fn finish<K: Sink>(alloc: Global, fault: Fault, out: &mut K) -> u8
-    ensures finishes { Finishes (Rose (K.faults out.old) (K.faults out.new)) (K.written out.old) (K.written out.new) result fault }
+// Ends a command that was done, or that came to a fault, and answers the exit status.
+pub(crate) fn finish<K: Sink>(alloc: Global, done: Result<(), Fault>, out: &mut K) -> u8
+    ensures done { OnOk done ((result ≡ 0) × (K.written out.new ≡ K.written out.old)) }
+    ensures finishes { IfErr done (Finishes (Rose (K.faults out.old) (K.faults out.new)) (K.written out.old) (K.written out.new) result) }
     ensures moved { Leads K.moves out.old out.new }
 {
-    match fault {
-        Fault::Refused(refusal) => tell_refusal(alloc, &refusal, out),
-        Fault::Write => 7,
-        Fault::Save => 7,
-        Fault::Memory => end_without_memory(out),
+    match done {
+        Ok(()) => 0,
+        Err(Fault::Refused(refusal)) => tell_refusal(alloc, &refusal, out),
+        Err(Fault::Write) => 7,
+        Err(Fault::Save) => 7,
+        Err(Fault::Memory) => end_without_memory(out),
     }
 }

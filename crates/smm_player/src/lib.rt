@@ -11,6 +11,7 @@ mod load;
 mod memory_play;
 mod playing;
 mod refusal;
+mod replay;
 mod report;
 mod step;
 

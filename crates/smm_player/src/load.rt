@@ -1,11 +1,11 @@
-ghost use Rattle.std.specs.Prelude.{◌≡◌, ◌≤◌, ◌<◌, Ok, All, IfErr, IfOk, IsTrue, length};
+ghost use Rattle.std.specs.Prelude.{◌≡◌, ◌≤◌, ◌<◌, Ok, All, IfErr, IfOk, length};
 ghost use Rattle.smm_base.specs.Calls.{Leads};
 ghost use Rattle.smm_base.specs.Faults.{Rose};
 ghost use Rattle.cpu_table.specs.Data.{data_of};
-ghost use Rattle.one_processor.specs.Setups.{is_built, AreImagesOf};
-ghost use Rattle.smm_player.specs.declared.refusal.Refusal.TheVariants.{Read as read, TooLong as too_long, NotBuilt as not_built};
+ghost use Rattle.rendezvous_core.specs.Starts.{AreImagesOf};
+ghost use Rattle.smm_player.specs.declared.refusal.Refusal.TheVariants.{Read as read, TooLong as too_long};
 ghost use Rattle.smm_player.specs.Plan.{plan_of, IsPlayable};
-ghost use Rattle.smm_player.specs.Due.{loaded, if_built, platform_found, platform_due, images_found, images_due, schedule_found, schedule_due, plan_with, plan_on, plan_due, IsDue};
+ghost use Rattle.smm_player.specs.Due.{loaded, platform_found, platform_due, images_found, images_due, schedule_found, schedule_due, plan_with, plan_on, plan_due, IsDue};
 ghost use Rattle.smm_player.specs.Loading.{IsLoadFault, IsRefusedFor, LoadCause, StopsReading};
 
 use crate::command::Step;
@@ -15,8 +15,8 @@ use crate::inputs::Inputs;
 use crate::refusal::Refusal;
 use cpu_table::{Setup, Text};
 use image_file::read_images;
-use one_processor::{is_built, start_fault};
 use platform_file::{read_platform, read_schedule};
+use rendezvous_core::start_fault;
 use save_state_map::Image;
 use smm_base::{LoadError, MapKind, Store};
 use std::alloc::Global;
@@ -46,16 +46,6 @@ fn too_long(alloc: Global, name: &Text, limit: u64) -> Fault
 {
     match Text::from_str(alloc, name.as_str()) {
         Ok(name) => Fault::Refused(Refusal::TooLong(name, limit)),
-        Err(_) => Fault::Memory,
-    }
-}
-
-// The fault of a file that asks for a part that is not built.
-fn not_built(alloc: Global, name: &Text) -> Fault
-    ensures { IsRefusedFor (not_built name.now) result }
-{
-    match Text::from_str(alloc, name.as_str()) {
-        Ok(name) => Fault::Refused(Refusal::NotBuilt(name)),
         Err(_) => Fault::Memory,
     }
 }
@@ -90,41 +80,26 @@ fn load_file<F: Store>(
     }
 }
 
-// A setup, where the replay plays it.
-fn built_only(alloc: Global, name: &Text, setup: Setup) -> Result<Setup, Fault>
-    ensures found { IfOk result (λ built. if_built name.now (data_of setup) ≡ Ok (data_of built)) }
-    ensures built { IfOk result (λ built. IsTrue (is_built (data_of built))) }
-    ensures cause { IfErr result (StopsReading (if_built name.now (data_of setup))) }
-{
-    if is_built(&setup) {
-        Ok(setup)
-    } else {
-        Err(not_built(alloc, name))
-    }
-}
-
 // The setup of a platform file.
-fn setup_of(alloc: Global, name: &Text, bytes: &[u8]) -> Result<Setup, Fault>
-    ensures found { IfOk result (λ setup. platform_found name.now bytes.now ≡ Ok (data_of setup)) }
-    ensures built { IfOk result (λ setup. IsTrue (is_built (data_of setup))) }
-    ensures cause { IfErr result (StopsReading (platform_found name.now bytes.now)) }
+fn setup_of(alloc: Global, bytes: &[u8]) -> Result<Setup, Fault>
+    ensures found { IfOk result (λ setup. platform_found bytes.now ≡ Ok (data_of setup)) }
+    ensures cause { IfErr result (StopsReading (platform_found bytes.now)) }
 {
     match read_platform(alloc, bytes) {
-        Ok(setup) => built_only(alloc, name, setup),
+        Ok(setup) => Ok(setup),
         Err(error) => Err(platform_fault(error)),
     }
 }
 
 // Loads the platform, and reads it.
 fn load_platform<F: Store>(alloc: Global, names: &Step, store: &mut F) -> Result<Setup, Fault>
-    ensures built { IfOk result (λ setup. IsTrue (is_built (data_of setup))) }
     ensures due { IfOk result (λ setup. IsDue (platform_due names.now) (F.files store.old) (data_of setup)) }
     ensures cause { IfErr result (LoadCause (platform_due names.now) (F.files store.old) (Rose (F.failed_loads store.old) (F.failed_loads store.new))) }
     ensures files_stay { F.files store.new ≡ F.files store.old }
     ensures moved { Leads F.moves store.old store.new }
 {
     match load_file(alloc, &names.platform, PLATFORM_LIMIT, store) {
-        Ok(bytes) => setup_of(alloc, &names.platform, &bytes),
+        Ok(bytes) => setup_of(alloc, &bytes),
         Err(fault) => Err(fault),
     }
 }
@@ -205,8 +180,7 @@ fn load_with<F: Store>(
     images: Vec<Image>,
     store: &mut F,
 ) -> Result<Inputs, Fault>
-    requires built { IsTrue (is_built (data_of setup)) }
-    requires serve { AreImagesOf (data_of setup) images.items }
+    requires { AreImagesOf (data_of setup) images.items }
     ensures playable { IfOk result (λ inputs. IsPlayable (plan_of inputs)) }
     ensures due { IfOk result (λ inputs. IsDue (plan_with names.now (data_of setup) images.items) (F.files store.old) (plan_of inputs)) }
     ensures cause { IfErr result (LoadCause (plan_with names.now (data_of setup) images.items) (F.files store.old) (Rose (F.failed_loads store.old) (F.failed_loads store.new))) }
@@ -239,7 +213,6 @@ fn load_on<F: Store>(
     setup: Setup,
     store: &mut F,
 ) -> Result<Inputs, Fault>
-    requires { IsTrue (is_built (data_of setup)) }
     ensures playable { IfOk result (λ inputs. IsPlayable (plan_of inputs)) }
     ensures due { IfOk result (λ inputs. IsDue (plan_on names.now (data_of setup)) (F.files store.old) (plan_of inputs)) }
     ensures cause { IfErr result (LoadCause (plan_on names.now (data_of setup)) (F.files store.old) (Rose (F.failed_loads store.old) (F.failed_loads store.new))) }

@@ -67,16 +67,14 @@ fn obey<F: Store, K: Sink>(alloc: Global, command: &Command, store: &mut F, out:
     ensures sink_moved { Leads K.moves out.old out.new }
 {
     every_schedule();
-    match perform(alloc, command, store, out) {
-        Ok(()) => 0,
-        Err(fault) => finish(alloc, fault, out),
-    }
+    let done = perform(alloc, command, store, out);
+    finish(alloc, done, out)
 }
 
 /// Does the command of the words, and answers the exit status. There is one command yet, `step
 /// PLATFORM IMAGES SCHEDULE AFTER`: it replays the schedule on the platform, writes the report to the
-/// sink, and saves the image that the processor last resumed from under the name AFTER, as an image
-/// file of the platform's kind.
+/// sink, and saves the images that the processors last resumed from, or their first ones, under the
+/// name AFTER, as an image file of the platform's kind.
 ///
 /// | status | line | when |
 /// |---|---|---|
@@ -110,21 +108,20 @@ fn obey<F: Store, K: Sink>(alloc: Global, command: &Command, store: &mut F, out:
 /// | 6 | `fault too-long NAME LIMIT` | the file has more bytes than its limit: 1,048,576 for the platform, 65,548 for the images, 4,194,304 for the schedule |
 /// | 7 | none | a write or the save failed; where a write failed nothing is saved |
 /// | 8 | `fault memory` | want of memory |
-/// | 9 | `fault not-built NAME` | the platform file describes a platform of which a part is not built |
 ///
 /// The words are judged first. Then each file is loaded and judged, in the order of the words: the
-/// platform, the images, the schedule. Of a platform it is asked last whether it is built, and of images
-/// their kind comes before their count. Whether the processors can be relocated is judged when the
-/// schedule is read. With another status than 0 and 7 nothing is saved, and no name
-/// but AFTER ever changes.
+/// platform, the images, the schedule. Of images their kind comes before their count. Whether the
+/// processors can be relocated is judged when the schedule is read. With another status than 0 and 7
+/// nothing is saved, and no name but AFTER ever changes.
 pub fn play<F: Store, K: Sink>(alloc: Global, words: &Vec<String>, store: &mut F, out: &mut K) -> u8
     ensures status { IsTrue (is_exit_status result) }
 
     // Status 0: what is due for the command and the held files was written and saved.
     ensures done { result ≡ 0 → IsSomeAnd (form_of (texts words.now.items)) (λ asked. IsDone asked (F.files store.old) (F.files store.new) (K.written out.old) (K.written out.new)) }
 
-    // Of a step that is the report of the replay that is due, whose labels are a run of the rendezvous machine, and under
-    // AFTER the image that by the labels alone the processor last resumed from, in the platform's kind.
+    // Of a step that is the report of the replay that is due, and under AFTER the image that each processor last resumed
+    // from, in the platform's kind. On a platform that the core for one processor plays the labels are a run of the
+    // rendezvous machine, from which the image follows.
     ensures played { result ≡ 0 → IsSomeAnd (form_of (texts words.now.items)) (λ asked. IsPlayed asked (F.files store.old) (F.files store.new) (K.written out.old) (K.written out.new)) }
 
     // Status 1 comes exactly where the words are of no form, unless there is no memory.
@@ -132,8 +129,8 @@ pub fn play<F: Store, K: Sink>(alloc: Global, words: &Vec<String>, store: &mut F
     ensures usage { form_of (texts words.now.items) ≡ None → (result ≡ 1) ⊎ (result ≡ 8) }
     ensures usage_told { result ≡ 1 → Tells (Rose (K.faults out.old) (K.faults out.new)) (K.written out.old) (K.written out.new) usage_line }
 
-    // Each of the statuses 2, 3, 4, 6 and 9 has a refusal with its cause, and its line is told.
-    ensures faulted { (result ≡ 2) ⊎ (result ≡ 3) ⊎ (result ≡ 4) ⊎ (result ≡ 6) ⊎ (result ≡ 9) → IsSomeAnd (form_of (texts words.now.items)) (λ asked. IsFaulted asked (F.files store.old) (Rose (F.failed_loads store.old) (F.failed_loads store.new)) (Rose (K.faults out.old) (K.faults out.new)) (K.written out.old) (K.written out.new) result) }
+    // Each of the statuses 2, 3, 4 and 6 has a refusal with its cause, and its line is told.
+    ensures faulted { (result ≡ 2) ⊎ (result ≡ 3) ⊎ (result ≡ 4) ⊎ (result ≡ 6) → IsSomeAnd (form_of (texts words.now.items)) (λ asked. IsFaulted asked (F.files store.old) (Rose (F.failed_loads store.old) (F.failed_loads store.new)) (Rose (K.faults out.old) (K.faults out.new)) (K.written out.old) (K.written out.new) result) }
 
     // Where no load failed, the status is the one that is due for the held files.
     ensures due { (Rose (F.failed_loads store.old) (F.failed_loads store.new) → ⊥) → IfSome (form_of (texts words.now.items)) (λ asked. IfSome (F.files store.old) (λ held. IsDueStatus (due asked held) result)) }

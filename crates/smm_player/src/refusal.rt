@@ -21,8 +21,6 @@ pub enum Refusal {
     Images(ImagesFault),
     /// The file is no schedule of the platform.
     Schedule(ScheduleError),
-    /// The file with this name asks for a part that is not built.
-    NotBuilt(Text),
 }
 
 impl Refusal {
@@ -35,7 +33,6 @@ impl Refusal {
             Refusal::Platform(_) => 2,
             Refusal::Images(_) => 3,
             Refusal::Schedule(_) => 4,
-            Refusal::NotBuilt(_) => 9,
         }
     }
 }
@@ -54,7 +51,6 @@ impl fmt::Display for Refusal {
             Refusal::Platform(error) => write!(f, "fault platform {error}"),
             Refusal::Images(fault) => write!(f, "fault images {fault}"),
             Refusal::Schedule(error) => write!(f, "fault schedule {error}"),
-            Refusal::NotBuilt(name) => write!(f, "fault not-built {}", name.as_str()),
         }
     }
 }

@@ -18,6 +18,20 @@ status = [\"prompt\"]
 manage = [\"root\"]
 ";
 
+const TWO_PROCESSORS: &str = "version = 1
+processors = 2
+map = \"intel64\"
+policy = \"elected\"
+mode = \"traditional\"
+polls = [8, 8]
+visits = 3
+ops = 64
+
+[[wave]]
+status = [\"prompt\", \"prompt\"]
+manage = [\"root\"]
+";
+
 const REPORT: &str = "chip except put:0 0 excepted:0
 chip source put:1 0 wave:1
 chip pend0 raise:1 0 -
@@ -32,12 +46,24 @@ fn images(alloc: Global) -> Result<Vec<u8>, NoMemory> {
     Ok(bytes)
 }
 
-// A store with a platform, images and a schedule.
+// The file of two images, whose bytes are 0 and 7.
+fn two_images(alloc: Global) -> Result<Vec<u8>, NoMemory> {
+    let mut bytes = Vec::from_slice(alloc, b"SMIM\x01\x00\x01\x00\x02\x00\x00\x00")?;
+    bytes.resize(1036, 0)?;
+    bytes.resize(2060, 7)?;
+    Ok(bytes)
+}
+
+// A store with platforms, images and schedules for one processor, and for two.
 fn store(alloc: Global) -> Result<MemStore, NoMemory> {
     let mut store = MemStore::new(alloc)?;
     store.put("P", PLATFORM.as_bytes())?;
     store.put("I", &images(alloc)?)?;
     store.put("S", b"1*3 0")?;
+    store.put("Q", TWO_PROCESSORS.as_bytes())?;
+    store.put("J", &two_images(alloc)?)?;
+    store.put("T", b"2*4 0 1")?;
+    store.put("U", b"2 3")?;
     Ok(store)
 }
 
@@ -73,7 +99,11 @@ step P X S A|6 2 0 fault read X
 step P I X A|6 3 0 fault read X
 step S X X A|2 1 0 fault platform not-toml
 step P S X A|3 2 0 fault images short 5
-step P I P A|4 3 0 fault schedule token 0";
+step P I P A|4 3 0 fault schedule token 0
+step Q I T A|3 2 0 fault images count-differs 2 1
+step P J S A|3 2 0 fault images count-differs 1 2
+step Q J U A|4 3 0 fault schedule actor 2 3
+step P I U A|4 3 0 fault schedule actor 0 2";
 
 #[test]
 fn files_are_loaded_in_their_order_and_no_others(rt: HostRuntime) -> Result<(), Fail> {
@@ -126,5 +156,27 @@ fn want_of_memory_ends_a_command(rt: HostRuntime) -> Result<(), Fail> {
     let mut sink = MemSink::new(alloc, 4096, Vec::new(alloc))?;
     assert_eq!(rt; play(alloc, &step, &mut store, &mut sink), 0);
     assert_eq!(rt; sink.bytes().as_slice(), REPORT.as_bytes());
+    Ok(())
+}
+
+// The report of two processors that enter.
+const REPORT_OF_TWO: &str = "chip except put:0 0 excepted:0
+chip source put:1 0 wave:1
+chip pend0 raise:1 0 -
+chip pend1 raise:1 0 -
+p0 pend0 take 1 enter
+p1 pend1 take 1 enter
+unfinished events 6 sessions 0 unserved 1
+";
+
+#[test]
+fn the_images_of_two_processors_are_saved_in_their_order(rt: HostRuntime) -> Result<(), Fail> {
+    let alloc = rt.alloc();
+    let mut store = store(alloc)?;
+    let mut sink = MemSink::new(alloc, 4096, Vec::new(alloc))?;
+    let status = play(alloc, &words(alloc, "step Q J T A")?, &mut store, &mut sink);
+    assert_eq!(rt; status, 0);
+    assert_eq!(rt; sink.bytes().as_slice(), REPORT_OF_TWO.as_bytes());
+    assert_eq!(rt; store.file("A"), store.file("J"));
     Ok(())
 }

@@ -11,7 +11,7 @@ returns-in-Ok-clause-due g c = then_found (λ inputs. plan_of inputs) (platform_
 
 pub returns-in-Ok-clause-cause : goal.returns-in-Ok-clause-cause
 returns-in-Ok-clause-cause g c =
-    then_stops (platform_due c.args.names.now) (plan_on c.args.names.now) (file_steady platform_limit c.args.names.now.platform (platform_found c.args.names.now.platform)) (g.F.Store.files c.args.store.now) (g.F.Store.files c.load_platform.new.store)
+    then_stops (platform_due c.args.names.now) (plan_on c.args.names.now) (file_steady platform_limit c.args.names.now.platform platform_found) (g.F.Store.files c.args.store.now) (g.F.Store.files c.load_platform.new.store)
     (Rose (g.F.Store.failed_loads c.load_platform.new.store) (g.F.Store.failed_loads c.load_on.new.store))
     (Rose (g.F.Store.failed_loads c.args.store.now) (g.F.Store.failed_loads c.load_on.new.store))
     (data_of c.in-Ok.setup) c.load_on.result c.in-Ok.ensures.files_stay

@@ -2,7 +2,8 @@ use Rattle.std.proofs.Common.{◌≡◌, ◌∙◌, Option, subst}
 use Rattle.smm_base.specs.Calls.{leads_on, rose_later, stays}
 use Rattle.smm_base.specs.Store.{FileMap, ChangesOnly}
 use Rattle.smm_base.specs.Faults.{Rose}
-use Rattle.smm_player.specs.Plan.{plan_of, report_of}
+use Rattle.smm_player.specs.Plan.{plan_of}
+use Rattle.smm_player.specs.Replays.{report_of}
 use Rattle.smm_player.specs.Due.{plan_due}
 use Rattle.smm_player.specs.declared.command.Command.TheVariants as command
 use Rattle.smm_player.proofs.PlayLemmas.{inputs_wrote, inputs_stop, inputs_unsaved, inputs_others, replay_stops, replay_wrote, replay_done, unsaved_from}
@@ -11,7 +12,7 @@ use Rattle.smm_player.proofs.playing.perform_step.Goals as goal
 pub returns-in-Ok-clause-done : goal.returns-in-Ok-clause-done
 returns-in-Ok-clause-done g c =
     replay_done c.replay_inputs.result c.args.names.now (g.F.Store.files c.args.store.now) (g.F.Store.files c.replay_inputs.new.store) (g.K.Sink.written c.args.out.now) (g.K.Sink.written c.replay_inputs.new.out)
-    (plan_of c.in-Ok.inputs) c.in-Ok.ensures.playable c.in-Ok.ensures.due c.replay_inputs.ensures.written c.replay_inputs.ensures.saved
+    (plan_of c.in-Ok.inputs) c.in-Ok.ensures.playable c.in-Ok.ensures.due c.replay_inputs.ensures.images c.replay_inputs.ensures.written c.replay_inputs.ensures.saved
 
 pub returns-in-Ok-clause-cause : goal.returns-in-Ok-clause-cause
 returns-in-Ok-clause-cause g c =

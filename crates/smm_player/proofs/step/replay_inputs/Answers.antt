@@ -1,20 +1,19 @@
 use Rattle.smm_player.specs.Plan.{plan_of}
-use Rattle.smm_player.proofs.ReplayLemmas.{report_is}
+use Rattle.smm_player.proofs.ReplayLemmas.{report_is, on_ok_anyway}
 use Rattle.smm_base.specs.Calls.{stays}
 use Rattle.smm_player.proofs.step.replay_inputs.Goals as goal
 
+pub returns-in-Ok-clause-images : goal.returns-in-Ok-clause-images
+returns-in-Ok-clause-images g c = on_ok_anyway c.conclude.result _ (rw (← c.in-Ok.ensures.replayed) c.in-Ok.ensures.images)
+
 pub returns-in-Ok-clause-written : goal.returns-in-Ok-clause-written
-returns-in-Ok-clause-written g c =
-    let is = report_is (plan_of c.args.inputs.now) c.in-Ok.world.events c.in-Ok.world.world c.in-Ok.ensures.events c.in-Ok.ensures.world in
-    rw (← is) c.conclude.ensures.written
+returns-in-Ok-clause-written g c = rw (← report_is (plan_of c.args.inputs.now) c.in-Ok.replay c.in-Ok.ensures.replayed) c.conclude.ensures.written
 
 pub returns-in-Ok-clause-ends : goal.returns-in-Ok-clause-ends
-returns-in-Ok-clause-ends g c =
-    let is = report_is (plan_of c.args.inputs.now) c.in-Ok.world.events c.in-Ok.world.world c.in-Ok.ensures.events c.in-Ok.ensures.world in
-    rw (← is) c.conclude.ensures.ends
+returns-in-Ok-clause-ends g c = rw (← report_is (plan_of c.args.inputs.now) c.in-Ok.replay c.in-Ok.ensures.replayed) c.conclude.ensures.ends
 
 pub returns-in-Ok-clause-saved : goal.returns-in-Ok-clause-saved
-returns-in-Ok-clause-saved g c = rw (← c.in-Ok.ensures.world) c.conclude.ensures.saved
+returns-in-Ok-clause-saved g c = rw (← c.in-Ok.ensures.replayed) c.conclude.ensures.saved
 
 pub returns-in-Err-clause-store_moved : goal.returns-in-Err-clause-store_moved
 returns-in-Err-clause-store_moved g c = stays

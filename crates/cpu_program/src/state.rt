@@ -1,0 +1,105 @@
+ghost use Rattle.std.specs.Prelude.{◌≡◌, ◌<◌, Some, IfOk, IsSome};
+ghost use Rattle.cpu_table.specs.Data.{data_of};
+ghost use Rattle.sync_words.specs.Steps.{Accepts, found_of};
+ghost use Rattle.cpu_program.specs.Bounds.{IsActor};
+ghost use Rattle.cpu_program.specs.Programs.{first_actor, gift_of, given, number_of, received, taken, want_of};
+ghost use Rattle.cpu_program.specs.Views.{actor_in};
+
+use crate::cargo::Cargo;
+use crate::chipset::Chipset;
+use crate::processor::{Processor, held_at_first};
+use cpu_regs::Regs;
+use cpu_table::Setup;
+use handler_ops::Server;
+use save_state_map::Image;
+use smm_base::NoMemory;
+use std::alloc::Global;
+use sync_words::{Applied, Label, Want};
+
+/// The actor of a program.
+#[derive(Drop)]
+pub enum State {
+    Processor(Processor),
+    Chipset(Chipset),
+}
+
+impl State {
+    /// The actor at first: a processor where it has an image and registers.
+    pub fn new(
+        alloc: Global,
+        setup: &Setup,
+        actor: u16,
+        start: Option<Image>,
+        regs: Option<Regs>,
+        chair: Option<Server>,
+    ) -> Result<State, NoMemory>
+        requires { IsSome start → actor < setup.now.processors }
+        ensures { IfOk result (λ state. actor_in state ≡ first_actor (data_of setup.now) actor start regs chair) }
+    {
+        let copy = setup.copy()?;
+        match (start, regs) {
+            (Some(image), Some(registers)) => {
+                let held = held_at_first(alloc, setup.processors, actor, &image)?;
+                Ok(State::Processor(Processor::new(copy, actor, &image, registers, held, chair)))
+            }
+            _ => Ok(State::Chipset(Chipset::new(copy))),
+        }
+    }
+
+    /// What it wants.
+    pub fn want(&self) -> Want
+        requires { IsActor (actor_in self.now) }
+        ensures { result ≡ want_of (actor_in self.now) }
+    {
+        match self {
+            State::Processor(processor) => processor.want(),
+            State::Chipset(chipset) => chipset.want(),
+        }
+    }
+
+    /// The actor's number.
+    pub fn number(&self) -> u16
+        ensures { result ≡ number_of (actor_in self.now) }
+    {
+        match self {
+            State::Processor(processor) => processor.me,
+            State::Chipset(chipset) => chipset.setup.processors,
+        }
+    }
+
+    /// Gives what it wants to give, which is there.
+    pub fn give(&mut self) -> Cargo
+        requires actor { IsActor (actor_in self.old) }
+        requires there { IsSome (gift_of (actor_in self.old)) }
+        ensures gift { Some result ≡ gift_of (actor_in self.old) }
+        ensures after { actor_in self.new ≡ given (actor_in self.old) }
+    {
+        match self {
+            State::Processor(processor) => processor.give_wanted(),
+            State::Chipset(_) => unreachable!(),
+        }
+    }
+
+    /// Receives what it wants to take, or what it gave and didn't move.
+    pub fn receive(&mut self, cargo: Cargo)
+        requires { IsActor (actor_in self.old) }
+        ensures { actor_in self.new ≡ received cargo (actor_in self.old) }
+    {
+        if let State::Processor(processor) = self {
+            processor.receive_wanted(cargo);
+        }
+    }
+
+    /// Goes on after the wanted access was accepted, and gives what the event says.
+    pub fn take(&mut self, applied: Applied) -> Label
+        requires actor { IsActor (actor_in self.old) }
+        requires accepted { Accepts (want_of (actor_in self.old)) applied }
+        ensures label { result ≡ (taken (actor_in self.old) (found_of applied)).label }
+        ensures after { actor_in self.new ≡ (taken (actor_in self.old) (found_of applied)).after }
+    {
+        match self {
+            State::Processor(processor) => processor.take(applied),
+            State::Chipset(chipset) => chipset.take(applied.found()),
+        }
+    }
+}

@@ -1,0 +1,43 @@
+ghost use Rattle.std.specs.Prelude.{◌≡◌};
+ghost use Rattle.sync_words.specs.Steps.{Accepts, found_of};
+ghost use Rattle.cpu_program.specs.Bounds.{IsProcessor};
+ghost use Rattle.cpu_program.specs.Views.{processor_in};
+ghost use Rattle.cpu_program.specs.Processors.{taken_in, want_in};
+
+use crate::part::Part;
+use crate::processor::Processor;
+use sync_words::{Applied, Label};
+
+impl Processor {
+    /// Goes on after the wanted access was accepted, and gives what the event says. The time is at most proportional to the numbers
+    /// of processors and of causes, but for a walk's search for its next handler.
+    pub fn take(&mut self, applied: Applied) -> Label
+        requires processor { IsProcessor (processor_in self.old) }
+        requires accepted { Accepts (want_in self.old.part (processor_in self.old)) applied }
+        ensures label { result ≡ (taken_in self.old.part (processor_in self.old) (found_of applied)).label }
+        ensures after { processor_in self.new ≡ (taken_in self.old.part (processor_in self.old) (found_of applied)).after }
+    {
+        let found = applied.found();
+        let (label, next) = match &mut self.part {
+            Part::Between(row) => {
+                let row = *row;
+                return self.take_at(row, found);
+            }
+            Part::Serving => return self.take_serving(found),
+            Part::Entering(entry) => (entry.take(applied), entry.left()),
+            Part::Gathering(gather) => (gather.take(applied), gather.left()),
+            Part::Closing(close) => (close.take(applied), close.left()),
+            Part::Exiting(exit) => (exit.take(applied), exit.left()),
+            Part::Reporting(report) => {
+                let label = report.take(applied);
+                let next = report.left();
+                let bsp = report.bsp();
+                self.know(bsp);
+                (label, next)
+            }
+            Part::Off => return Label::Silent,
+        };
+        self.leave(next);
+        label
+    }
+}

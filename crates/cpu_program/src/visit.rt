@@ -1,0 +1,80 @@
+ghost use Rattle.std.specs.Prelude.{◌≡◌, ◌<◌, ◌≤◌, slice_set, length, option_map};
+ghost use Rattle.std.specs.List.{find};
+ghost use Rattle.cpu_program.specs.Bounds.{AreOfKind, IsReady, HasImages};
+ghost use Rattle.cpu_program.specs.Views.{processor_in};
+ghost use Rattle.handler_ops.specs.Course.{desk_of};
+ghost use Rattle.cpu_program.specs.Processors.{cause_of, desk_saved, entered, is_of_visit, own_desk, resume_label, resumed};
+
+use crate::part::Part;
+use crate::processor::Processor;
+use cpu_regs::{After, Cause, Regs, enter, resume};
+use cpu_table::CauseAt;
+use handler_ops::Desks;
+use sync_words::{Label, Row};
+
+// How a visit begins and ends.
+impl Processor {
+    /// A visit begins: the registers are saved into the image on the processor's own desk, with the cause of the visit.
+    pub fn enter(&mut self)
+        requires ready { IsReady self.old }
+        requires images { HasImages self.old }
+        requires left { self.old.visits < self.old.setup.visits }
+        ensures { processor_in self.new ≡ entered (processor_in self.old) }
+    {
+        self.visits += 1;
+        let cause = cause_of(self.setup.causes.as_slice(), self.me, self.visits);
+        save(&mut self.held.desks, self.me, &self.registers, &cause);
+        self.go_on(Row::LookAtSource);
+    }
+
+    /// The visit ends: the processor loads its registers from the image on its own desk, and goes on as the image says.
+    pub fn resume(&mut self) -> Label
+        requires { HasImages self.old }
+        ensures label { result ≡ resume_label (own_desk (processor_in self.old)) }
+        ensures after { processor_in self.new ≡ resumed (own_desk (processor_in self.old)) (processor_in self.old) }
+    {
+        self.part = Part::Between(self.await_row());
+        match self.held.desks.get(self.me) {
+            None => Label::Resume(After::Next),
+            Some(desk) => {
+                let after = resume(&desk.image, &mut self.registers);
+                self.last = desk.image;
+                Label::Resume(after)
+            }
+        }
+    }
+}
+
+// The registers are saved into the image on the desk of a processor, if it is held.
+fn save(held: &mut Desks, cpu: u16, registers: &Regs, cause: &Cause)
+    requires kinds { AreOfKind registers.now.kind held.old }
+    requires own { cpu < length held.old }
+    ensures { held.new ≡ slice_set held.old cpu (option_map (desk_saved registers.now cause.now) (desk_of held.old cpu)) }
+{
+    if let Some(mut desk) = held.take(cpu) {
+        enter(registers, cause, &mut desk.image);
+        held.put(cpu, desk);
+    }
+}
+
+// The cause of a visit: that of the first entry for it, or none. The time is at most proportional to the number of entries.
+fn cause_of(causes: &[CauseAt], cpu: u16, visit: u32) -> Cause
+    ensures { result ≡ cause_of causes.now cpu visit }
+{
+    match entry_of(causes, cpu, visit) {
+        None => Cause {
+            halt: false,
+            io: None,
+        },
+        Some(entry) => entry.cause,
+    }
+}
+
+fn entry_of(causes: &[CauseAt], cpu: u16, visit: u32) -> Option<CauseAt>
+    ensures { result ≡ find (is_of_visit cpu visit) causes.now }
+{
+    causes
+        .iter()
+        .copied()
+        .find(|entry| entry.cpu == cpu && entry.visit == visit)
+}

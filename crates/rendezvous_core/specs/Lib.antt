@@ -1,0 +1,11 @@
+pub mod Worlds
+pub mod Starts
+pub mod Texts
+pub mod Laws
+pub mod Fitting
+pub mod WordsInside
+pub mod LyingInside
+pub mod StartsInside
+pub mod Turns
+pub mod WorldInside
+pub mod Platforms
