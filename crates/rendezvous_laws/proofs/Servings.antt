@@ -1,5 +1,5 @@
 -- Each step of the processor as it serves keeps what holds, and the machine allows its label.
-use Rattle.std.proofs.Common.{◌≡◌, ◌≤◌, ◌⊎◌, inl, inr, zero, suc, arith, Bool, true, false, List, [], ◌∷◌, ◌++◌, Option, Some, refl, sym, ap, subst, ◌∙◌}
+use Rattle.std.proofs.Common.{◌≡◌, ◌≤◌, ◌⊎◌, inl, inr, zero, suc, arith, Bool, true, false, List, [], ◌∷◌, ◌++◌, Option, refl, sym, ap, subst, ◌∙◌}
 use Rattle.std.proofs.lemmas.Bool.{le-ltb}
 use Rattle.save_state_map.specs.Images.{ImageContents}
 use Rattle.cpu_table.specs.Data.{SetupData}
@@ -23,13 +23,13 @@ use Rattle.handler_ops.specs.Stands.{Leads}
 use Rattle.handler_ops.specs.Course.{Course, Step, has_job, is_held, due, step_of, said, moved}
 use Rattle.handler_ops.specs.Conditions.{IsSound, CameFor, beginning}
 use Rattle.handler_ops.specs.NextRow.{row_of}
-use Rattle.handler_ops.specs.Told.{step_as, need_as, handed_as}
+use Rattle.handler_ops.specs.Told.{step_as}
 use Rattle.handler_ops.proofs.Rows.{step_leads, finished}
 use Rattle.handler_ops.proofs.RowSteps.{step_of_row}
 use Rattle.handler_ops.proofs.Seats.{SeatsBy, step_seats}
 use Rattle.handler_ops.proofs.Sessions.{begins_sound}
 use Rattle.cpu_program.specs.Actors.{Processor, OfProcessor, OfChipset}
-use Rattle.cpu_program.specs.Processors.{is_at_need, with_need}
+use Rattle.cpu_program.specs.Processors.{told_need}
 use Rattle.rendezvous_core.specs.declared.stepped.Stepped.{Stepped}
 use Rattle.rendezvous_core.specs.declared.stepped.Stepped.TheVariants as stepped
 use Rattle.rendezvous_core.specs.Worlds.{World, step, event_of}
@@ -68,9 +68,7 @@ known_after d x l image =
 
 -- the processor as the row is told
 abbrev told_processor : SetupData → Mode → Bool → Knowledge → Row → Processor
-told_processor d mode elects x r =
-    with_need (is_at_need 1 (need_as r))
-    (record (processor_at d mode elects AtHandlers x) { chair = Some (record (chair_at (one d mode elects) x) { told = r }); held = handed_as r (held_at x.image) })
+told_processor d mode elects x r = told_need (record (chair_at (one d mode elects) x) { told = r }) (processor_at d mode elects AtHandlers x)
 
 abbrev told_world : SetupData → Mode → Bool → Herald → Knowledge → Signals → Row → World
 told_world d mode elects h x g r =
@@ -84,8 +82,10 @@ ended_world d Relaxed elects h x g idle = rw idle refl
 told_is : (d : SetupData) (mode : Mode) (elects : Bool) (h : Herald) (x : Knowledge) (g : Signals) (r : Row) → has_job (seat x.course.place.state 0) ≡ false → LooksOrEnds r
     → told_world d mode elects h x g r ≡ world_at d mode elects (stage_by mode r) h (record x { told = r }) g
 told_is d mode elects h x g (row.Looking l) idle (inl k) = refl
-told_is d mode elects h x g (row.Reading c reg width) idle (inl k) = refl
-told_is d mode elects h x g (row.Writing c reg width v) idle (inl k) = refl
+told_is d mode elects h x g (row.Reading zero reg width) idle (inl k) = refl
+told_is d mode elects h x g (row.Reading (suc c) reg width) idle (inl k) = absurd (omega (arith, k))
+told_is d mode elects h x g (row.Writing zero reg width v) idle (inl k) = refl
+told_is d mode elects h x g (row.Writing (suc c) reg width v) idle (inl k) = absurd (omega (arith, k))
 told_is d mode elects h x g (row.Allocating size) idle (inl k) = refl
 told_is d mode elects h x g (row.Freeing place) idle (inl k) = refl
 told_is d mode elects h x g _ idle (inl k) = absurd k

@@ -1,9 +1,8 @@
 -- What a command's end comes to: status by status, fault by fault.
 use Rattle.std.proofs.Common.{◌≡◌, ◌≢◌, ℕ, ◌<◌, ◌⊎◌, true, List, Option, None, Some, Result, Ok, Err, IfSome, IfErr, OnOk, IsOk, refl, ap, sym, subst, ◌∙◌, arith, inl, inr}
-use Rattle.std.specs.Prelude.{IsTrue, IsSomeAnd, MatchOption}
+use Rattle.std.specs.Prelude.{IsSomeAnd, MatchOption}
 use Rattle.smm_base.specs.Sink.{appended, GainsPrefix}
 use Rattle.smm_base.specs.Store.{FileMap, ChangesOnly}
-use Rattle.one_processor.specs.Setups.{is_built}
 use Rattle.smm_player.specs.declared.command.Step.{Step}
 use Rattle.smm_player.specs.declared.command.Command.{Command}
 use Rattle.smm_player.specs.declared.command.Command.TheVariants as command
@@ -19,8 +18,9 @@ use Rattle.smm_player.specs.Performing.{Steps, Performs, StopsAt, WroteBefore}
 use Rattle.smm_player.specs.Plan.{Plan, IsPlayable}
 use Rattle.smm_player.specs.Play.{is_exit_status, IsDone, IsStepped, IsPlayed, WritesPart, WritesAll, IsFaulted, FailsOutside, RunsOut, UsageRunsOut, IsDueStatus, ChangesOnlySaved, Obeys}
 use Rattle.smm_player.specs.Refusal.{refusal_status, refusal_line, usage_line, memory_line}
-use Rattle.smm_player.specs.Replays.{replayed, report_of, AreImagesAfter, FollowsLabels}
+use Rattle.smm_player.specs.Replays.{replayed, report_of, AreImagesAfter}
 use Rattle.smm_player.proofs.LoadLemmas.{cause_first}
+use Rattle.smm_player.proofs.ReplayLemmas.{one_follows}
 
 -- the status of a refusal
 
@@ -229,35 +229,32 @@ step_done names files files' before after steps = record {
   saved = steps.saved;
 }
 
--- and a play, by what follows on a platform that the core for one processor plays
-abbrev pub Follows : Type 0
-Follows = (p : Plan) → IsPlayable p → IsTrue (is_built p.setup) → FollowsLabels p
-
-step_played : (names : Step) (files files' : Option FileMap) (before after : Option (List ℕ)) → Steps names files files' before after → Follows → IsStepped names files files' before after
-step_played names files files' before after steps follows = record {
+-- and a play
+step_played : (names : Step) (files files' : Option FileMap) (before after : Option (List ℕ)) → Steps names files files' before after → IsStepped names files files' before after
+step_played names files files' before after steps = record {
   plan = steps.plan;
   playable = steps.playable;
   is_due = steps.is_due;
   written = steps.written;
   images = steps.images;
   saved = steps.saved;
-  follows = follows steps.plan steps.playable;
+  follows = one_follows steps.plan steps.playable;
 }
 
-done_obeys : (asked : Command) (files files' : Option FileMap) (l w s : Type 0) (before after : Option (List ℕ)) → Performs asked files files' before after → ChangesOnly (saved_name asked) files files' → Follows →
+done_obeys : (asked : Command) (files files' : Option FileMap) (l w s : Type 0) (before after : Option (List ℕ)) → Performs asked files files' before after → ChangesOnly (saved_name asked) files files' →
     Obeys asked files files' l w s before after 0
-done_obeys (command.Step names) files files' l w s before after steps others follows =
-    at_0 (command.Step names) files files' l w s before after (step_done names files files' before after steps) (step_played names files files' before after steps follows) others
+done_obeys (command.Step names) files files' l w s before after steps others =
+    at_0 (command.Step names) files files' l w s before after (step_done names files files' before after steps) (step_played names files files' before after steps) others
 
 -- What was asked, once it was done or a fault came. The write of the fault's line is a later part of the call.
 pub command_obeys : {T : Type 0} (r : Result T Fault) (asked : Command) (files files' : Option FileMap) (l v f w s : Type 0) → (v → w) → (f → w) → (before middle after : Option (List ℕ)) (n : ℕ) →
     OnOk r (Performs asked files files' before middle) → IfErr r (StopsAt asked files l v s) → IfErr r (WroteBefore asked files before middle) → IfErr r (UnlessSaved (files' ≡ files)) →
-    ChangesOnly (saved_name asked) files files' → Follows → OnOk r ((n ≡ 0) × (after ≡ middle)) → IfErr r (Finishes f middle after n) → Obeys asked files files' l w s before after n
-command_obeys (Ok x) asked files files' l v f w s early late before middle after n done stops wrote stay others follows ends finishes =
+    ChangesOnly (saved_name asked) files files' → OnOk r ((n ≡ 0) × (after ≡ middle)) → IfErr r (Finishes f middle after n) → Obeys asked files files' l w s before after n
+command_obeys (Ok x) asked files files' l v f w s early late before middle after n done stops wrote stay others ends finishes =
     let P : Option (List ℕ) → Type 0 = λ x. Performs asked files files' before x in
     let Q : ℕ → Type 0 = λ m. Obeys asked files files' l w s before after m in
-    subst Q (sym ends.0) (done_obeys asked files files' l w s before after (subst P (sym ends.1) done) others follows)
-command_obeys (Err fault) asked files files' l v f w s early late before middle after n done stops wrote stay others follows ends finishes =
+    subst Q (sym ends.0) (done_obeys asked files files' l w s before after (subst P (sym ends.1) done) others)
+command_obeys (Err fault) asked files files' l v f w s early late before middle after n done stops wrote stay others ends finishes =
     fault_obeys asked files files' l v f w s early late before middle after n fault stops wrote stay others finishes
 
 -- a step's faults

@@ -1,31 +1,26 @@
 -- The images after, the report and the faults of a replay.
-use Rattle.std.proofs.Common.{◌≡◌, ℕ, zero, suc, ◌+◌, ◌<◌, false, if◌then◌else◌, List, [], ◌∷◌, ◌++◌, length, map, All, Option, Some, Result, Ok, Err, IfErr, IfOk, OnOk, refl, ap, sym, subst, ◌∙◌, arith, zero-add}
-use Rattle.std.specs.Prelude.{IsTrue, ◌==◌, ◌&&◌, slice_get, filter_map}
-use Rattle.std.specs.List.{range_with_len, cons_option, enumerate_from}
-use Rattle.std.proofs.lemmas.Bool.{and_parts, eqb-true}
+use Rattle.std.proofs.Common.{◌≡◌, ℕ, zero, suc, ◌+◌, ◌<◌, List, [], ◌∷◌, ◌++◌, length, map, All, true, Option, Some, Result, Ok, Err, IfErr, OnOk, refl, ap, sym, subst, ◌∙◌, arith, zero-add}
+use Rattle.std.specs.Prelude.{nat_le, slice_get, filter_map}
+use Rattle.std.specs.List.{range_with_len, cons_option, enumerate_from, list_all}
+use Rattle.std.proofs.lemmas.Bool.{and_parts, leb-true}
 use Rattle.std.proofs.lemmas.List.{length-map, map-append}
-use Rattle.std.proofs.lemmas.List.Elements.{All-head, All-cons, All-nil}
 use Rattle.std.proofs.lemmas.List.FromFn.{length-enumerate_from, length-map-range_with_len, map-range_with_len_more}
 use Rattle.smm_base.specs.Sink.{appended, GainsPrefix-whole}
+use Rattle.smm_base.specs.declared.kinds.Policy.{Policy}
 use Rattle.save_state_map.specs.Images.{ImageContents}
 use Rattle.cpu_table.specs.Data.{SetupData}
-use Rattle.cpu_regs.specs.Registers.{Registers}
-use Rattle.sync_words.specs.declared.label.Label.{Label}
-use Rattle.one_processor.specs.Machine.{IsRun, beginning, machine_after, member, resumed_image}
-use Rattle.one_processor.specs.Platform.{Platform}
-use Rattle.one_processor.specs.Setups.{platform_of, is_built, is_elected, is_traditional, is_one_wave, are_built_handlers}
-use Rattle.one_processor.specs.Setups as one_setup
-use Rattle.one_processor.specs.Starts as one_start
-use Rattle.one_processor.specs.Worlds as one
+use Rattle.cpu_table.specs.Ranges.{is_between, policy_fits, wave_fits, waves_fit, handlers_fit}
 use Rattle.rendezvous_core.specs.Platforms.{HasProcessorOf, KeepsPlatform}
-use Rattle.rendezvous_core.specs.Starts.{AreImagesOf}
-use Rattle.rendezvous_core.specs.Starts as any_start
-use Rattle.rendezvous_core.specs.Worlds as any
+use Rattle.rendezvous_core.specs.Starts.{first_registers, first_registers_of}
+use Rattle.rendezvous_core.specs.Worlds.{World, is_complete, last_image, replay_events}
+use Rattle.rendezvous_laws.proofs.Resumes.{last_resumed}
+use Rattle.rendezvous_laws.proofs.Runs.{IsReplayed, replayed as one_replayed}
+use Rattle.rendezvous_machine.specs.Runs.{resumed_image}
 use Rattle.smm_player.specs.declared.fault.Fault.{Fault}
 use Rattle.smm_player.specs.declared.fault.Fault.TheVariants.{Refused, Write, Save, Memory}
 use Rattle.smm_player.specs.Ending.{EndsReplay, SaveFault}
-use Rattle.smm_player.specs.Plan.{Plan, IsPlayable}
-use Rattle.smm_player.specs.Replays.{Replayed, images_by, registers_of, one_world, one_replayed, any_world, any_replayed, replayed, image_after, report_of, AreImagesAfter, FollowsLabels}
+use Rattle.smm_player.specs.Plan.{Plan, plan, IsPlayable}
+use Rattle.smm_player.specs.Replays.{Replayed, images_by, registers_of, world_of, replayed, image_after, labels_of, report_of, AreImagesAfter, FollowsLabels}
 use Rattle.smm_player.specs.Report.{report_text}
 
 -- the report by what the replay left
@@ -83,136 +78,86 @@ image_at image_of from (suc n) (image ∷ images) e (suc i) below =
     let on : (from + 1) + i ≡ from + suc i = omega arith in
     image_at image_of (from + 1) n images (tail_is (Some image) (image_of from) (map Some images) (map image_of (range_with_len (from + 1) n)) e) i (omega (arith, below)) ∙ ap image_of on
 
--- what is left by each core
-
-abbrev pub one_labels : Plan → List (ℕ × Label)
-one_labels p = one.labels (one_replayed p).events
-
-pub one_left : (p : Plan) → IsTrue (is_built p.setup) → replayed p ≡ one_replayed p
-unfolding replayed
-one_left p built = ap (λ b. if b then one_replayed p else any_replayed p) built
-
-one_image : (p : Plan) (i : ℕ) → IsTrue (is_built p.setup) → image_after p i ≡ one.last_image (one_world p) i
-unfolding image_after
-one_image p i built = ap (λ b. if b then one.last_image (one_world p) i else any.last_image (any_world p) i) built
-
-pub any_left : (p : Plan) → is_built p.setup ≡ false → replayed p ≡ any_replayed p
-unfolding replayed
-any_left p other = ap (λ b. if b then one_replayed p else any_replayed p) other
-
-any_image : (p : Plan) (i : ℕ) → is_built p.setup ≡ false → image_after p i ≡ any.last_image (any_world p) i
-unfolding image_after
-any_image p i other = ap (λ b. if b then one.last_image (one_world p) i else any.last_image (any_world p) i) other
-
 -- what is left by the world that the replay came to
-pub any_left_is : (p : Plan) (left : Replayed) (world : any.World) → world ≡ any_world p → left.events ≡ (any_replayed p).events → left.complete ≡ any.is_complete world →
-    map Some left.images ≡ map (any.last_image world) (range_with_len 0 p.setup.processors) → left ≡ any_replayed p
-any_left_is p left world is events complete each =
+pub left_is : (p : Plan) (left : Replayed) (world : World) → world ≡ world_of p → left.events ≡ replay_events p.setup (registers_of p) p.images p.actors → left.complete ≡ is_complete world →
+    map Some left.images ≡ map (last_image world) (range_with_len 0 p.setup.processors) → left ≡ replayed p
+unfolding replayed
+left_is p left world is events complete each =
     let places = range_with_len 0 p.setup.processors in
-    same_left left (any_replayed p) events (complete ∙ ap any.is_complete is)
-    (sym (images_are (any.last_image (any_world p)) places left.images (each ∙ ap (λ w. map (any.last_image w) places) is)))
+    same_left left (replayed p) events (complete ∙ ap is_complete is)
+    (sym (images_are (last_image (world_of p)) places left.images (each ∙ ap (λ w. map (last_image w) places) is)))
 
 -- and the images
-pub any_after : (p : Plan) (images : List ImageContents) (world : any.World) → is_built p.setup ≡ false → world ≡ any_world p → map Some images ≡ map (any.last_image world) (range_with_len 0 p.setup.processors) →
+pub images_after : (p : Plan) (images : List ImageContents) (world : World) → world ≡ world_of p → map Some images ≡ map (last_image world) (range_with_len 0 p.setup.processors) →
     All (λ image. image.kind ≡ p.setup.kind) images → AreImagesAfter p images
-any_after p images world other is each kinds =
+unfolding image_after
+images_after p images world is each kinds =
     let n = p.setup.processors in
-    let all : map Some images ≡ map (any.last_image (any_world p)) (range_with_len 0 n) = each ∙ ap (λ w. map (any.last_image w) (range_with_len 0 n)) is in
+    let all : map Some images ≡ map (last_image (world_of p)) (range_with_len 0 n) = each ∙ ap (λ w. map (last_image w) (range_with_len 0 n)) is in
     record {
-      serve = record { count = sym (length-map images Some) ∙ ap length all ∙ length-map-range_with_len (any.last_image (any_world p)) 0 n; kind = kinds };
-      each = λ i below. image_at (any.last_image (any_world p)) 0 n images all i below ∙ ap (any.last_image (any_world p)) (zero-add i) ∙ sym (any_image p i other);
+      serve = record { count = sym (length-map images Some) ∙ ap length all ∙ length-map-range_with_len (last_image (world_of p)) 0 n; kind = kinds };
+      each = λ i below. image_at (last_image (world_of p)) 0 n images all i below ∙ ap (last_image (world_of p)) (zero-add i);
     }
 
 -- each processor of that world is one of the platform
-pub any_platform : KeepsPlatform → (p : Plan) (world : any.World) → IsPlayable p → world ≡ any_world p → (i : ℕ) → i < p.setup.processors → HasProcessorOf p.setup world i
-any_platform keeps p world playable is i below =
-    let registers = any_start.first_registers p.setup p.images in
+pub keeps_platform : KeepsPlatform → (p : Plan) (world : World) → IsPlayable p → world ≡ world_of p → (i : ℕ) → i < p.setup.processors → HasProcessorOf p.setup world i
+keeps_platform keeps p world playable is i below =
+    let registers = registers_of p in
     let each : length registers ≡ length p.images = length-map (enumerate_from 0 p.images) _ ∙ length-enumerate_from 0 p.images in
-    let P : any.World → Type 0 = λ w. HasProcessorOf p.setup w i in
+    let P : World → Type 0 = λ w. HasProcessorOf p.setup w i in
     subst P (sym is) (keeps p.setup registers p.images p.actors i (sym each) (omega (arith, below, each, playable.images.count)))
 
-pub left_as : {V E : Type 0} (view : V → Replayed) (r : Result V E) (a b : Replayed) → a ≡ b → IfOk r (λ x. view x ≡ a) → IfOk r (λ x. view x ≡ b)
-left_as view (Ok x) a b same is = is ∙ same
-left_as view (Err error) a b same is = tt
-
--- THE CORE FOR ONE PROCESSOR
-
--- what holds of every schedule on the platforms that it plays
-pub record OneLaws : Type 0 where
-  pub runs : (setup : SetupData) (images : List ImageContents) (schedule : List ℕ) → IsTrue (is_built setup) → 0 < setup.visits → one_setup.AreImagesOf setup images →
-      IsRun (platform_of setup) (beginning (one_start.first_registers setup images) images) (one.labels (one.replay_events (platform_of setup) (one_start.first_registers setup images) images schedule))
-  pub lasts : (setup : SetupData) (images : List ImageContents) (schedule : List ℕ) → IsTrue (is_built setup) → 0 < setup.visits → one_setup.AreImagesOf setup images →
-      one.last_image (one.replay_world (platform_of setup) (one_start.first_registers setup images) images schedule) 0 ≡
-      Some (member (machine_after (platform_of setup) (beginning (one_start.first_registers setup images) images) (one.labels (one.replay_events (platform_of setup) (one_start.first_registers setup images) images schedule))) 0).last
-  pub resumed : (p : Platform) (registers : Registers) (image : ImageContents) (es : List (ℕ × Label)) → resumed_image p 0 registers image es ≡ (member (machine_after p (beginning (registers ∷ []) (image ∷ [])) es) 0).last
-  pub kind : (p : Platform) (i : ℕ) (registers : Registers) (image : ImageContents) (es : List (ℕ × Label)) → (resumed_image p i registers image es).kind ≡ image.kind
-
-processors_is : (s : SetupData) → IsTrue (is_built s) → s.processors ≡ 1
-processors_is s built =
-    let a = and_parts (s.processors == 1 && is_elected s.policy && is_traditional s.mode && is_one_wave s.waves) (are_built_handlers s.handlers) built in
-    let b = and_parts (s.processors == 1 && is_elected s.policy && is_traditional s.mode) (is_one_wave s.waves) a.0 in
-    let e = and_parts (s.processors == 1 && is_elected s.policy) (is_traditional s.mode) b.0 in
-    let f = and_parts (s.processors == 1) (is_elected s.policy) e.0 in
-    eqb-true s.processors 1 f.0
+-- ONE PROCESSOR
 
 one_of : (images : List ImageContents) → length images ≡ 1 → (image : ImageContents) × (images ≡ image ∷ [])
 one_of [] is = absurd (omega (arith, is))
 one_of (image ∷ []) is = (image, refl)
 one_of (image ∷ (other ∷ others)) is = absurd (omega (arith, is))
 
-the_image : (p : Plan) → IsPlayable p → IsTrue (is_built p.setup) → (image : ImageContents) × (p.images ≡ image ∷ [])
-the_image p playable built = one_of p.images (playable.images.count ∙ processors_is p.setup built)
+-- what is asked of a platform
+abbrev has_waves : Plan → Type 0
+has_waves p = 0 < length p.setup.waves
 
--- the image that follows from the labels
-abbrev pub following : Plan → ImageContents → ImageContents
-following p image = resumed_image (platform_of p.setup) 0 (one_start.first_registers_of p.setup 0 image) image (one_labels p)
+waves_of : (p : Plan) → IsPlayable p → has_waves p
+waves_of p playable =
+    let count = and_parts (is_between 1 p.setup.visits (length p.setup.waves)) (list_all (wave_fits p.setup.processors) p.setup.waves) playable.waves in
+    leb-true 1 (length p.setup.waves) (and_parts (nat_le 1 (length p.setup.waves)) (nat_le (length p.setup.waves) p.setup.visits) count.0).0
 
-as_one : (setup : SetupData) (images : List ImageContents) → AreImagesOf setup images → one_setup.AreImagesOf setup images
-as_one setup images are = record { count = are.count; kind = are.kind }
+law : (p : Plan) (image : ImageContents) → IsPlayable p → p.setup.processors ≡ 1 → IsReplayed p.setup (first_registers_of p.setup 0 image) image p.actors
+law p image playable single =
+    let policy : policy_fits 1 p.setup.policy ≡ true = subst (λ (n : ℕ). policy_fits n p.setup.policy ≡ true) single playable.policy in
+    one_replayed p.setup (first_registers_of p.setup 0 image) image p.actors single policy playable.handlers playable.visits (waves_of p playable)
 
-last_is : OneLaws → (p : Plan) (image : ImageContents) → IsPlayable p → IsTrue (is_built p.setup) → p.images ≡ image ∷ [] → one.last_image (one_world p) 0 ≡ Some (following p image)
-last_is laws p image playable built single =
-    let machine = λ (images : List ImageContents). (member (machine_after (platform_of p.setup) (beginning (one_start.first_registers p.setup images) images) (one_labels p)) 0).last in
-    laws.lasts p.setup p.images p.actors built playable.visits (as_one p.setup p.images playable.images)
-    ∙ ap (λ xs. Some (machine xs)) single
-    ∙ ap Some (sym (laws.resumed (platform_of p.setup) (one_start.first_registers_of p.setup 0 image) image (one_labels p)))
+-- the plan with this image alone, and the image that follows from its labels
+abbrev with_image : Plan → ImageContents → Plan
+with_image p image = record p { images = image ∷ [] }
 
--- the one image that it leaves
-pub one_images : (p : Plan) (image : ImageContents) → IsTrue (is_built p.setup) → one.last_image (one_world p) 0 ≡ Some image → (one_replayed p).images ≡ image ∷ []
-one_images p image built last =
-    ap (images_by (one.last_image (one_world p))) (processors_is p.setup built) ∙ ap (λ o. cons_option o []) last
+abbrev following : Plan → ImageContents → ImageContents
+following p image = resumed_image p.setup 0 (first_registers_of p.setup 0 image) image (labels_of (with_image p image))
 
-abbrev follows_in : OneLaws → (p : Plan) → IsPlayable p → IsTrue (is_built p.setup) → Replayed → Type 0
-follows_in laws p playable built left =
-    let image = (the_image p playable built).0 in
-    IsRun (platform_of p.setup) (beginning (registers_of p) p.images) (one.labels left.events)
-    × (left.images ≡ resumed_image (platform_of p.setup) 0 (one_start.first_registers_of p.setup 0 image) image (one.labels left.events) ∷ [])
+-- the one image that is left
+image_left : (p : Plan) (image : ImageContents) → p.setup.processors ≡ 1 → IsReplayed p.setup (first_registers_of p.setup 0 image) image p.actors →
+    (replayed (with_image p image)).images ≡ following p image ∷ []
+unfolding replayed
+image_left p image single ran =
+    let own = first_registers_of p.setup 0 image in
+    let last = ran.after ∙ ap Some (last_resumed p.setup (own ∷ []) (image ∷ []) (labels_of (with_image p image)) 0 own image refl refl ran.run) in
+    ap (images_by (last_image (world_of (with_image p image)))) single ∙ ap (λ o. cons_option o []) last
 
-pub one_follows : OneLaws → (p : Plan) → IsPlayable p → IsTrue (is_built p.setup) → FollowsLabels p
-one_follows laws p playable built =
-    let single = the_image p playable built in
-    let holds : follows_in laws p playable built (one_replayed p) = (
-      laws.runs p.setup p.images p.actors built playable.visits (as_one p.setup p.images playable.images),
-      one_images p (following p single.0) built (last_is laws p single.0 playable built single.1),
-    ) in
-    let there = subst (follows_in laws p playable built) (sym (one_left p built)) holds in
-    record { is_run = there.0; image = single.0; only = single.1; resumed = there.1 }
+-- it is that of the processor 0, and there is no other
+left_at : (p : Plan) (image : ImageContents) → (replayed (with_image p image)).images ≡ following p image ∷ [] → (i : ℕ) (first : ImageContents) → slice_get (image ∷ []) i ≡ Some first →
+    slice_get (replayed (with_image p image)).images i ≡ Some (resumed_image p.setup i (first_registers_of p.setup i first) first (labels_of (with_image p image)))
+left_at p image left zero first is =
+    let same : image ≡ first = cc in
+    ap (λ images. slice_get images 0) left ∙ ap (λ x. Some (resumed_image p.setup 0 (first_registers_of p.setup 0 x) x (labels_of (with_image p image)))) same
+left_at p image left (suc i) first is = absurd cc
 
-some_is : (x y : ImageContents) → ◌≡◌ {A = Option ImageContents} (Some x) (Some y) → x ≡ y
-some_is x y e = cc
+follows_with : (p : Plan) (image : ImageContents) → p.setup.processors ≡ 1 → IsReplayed p.setup (first_registers_of p.setup 0 image) image p.actors → FollowsLabels (with_image p image)
+unfolding replayed
+follows_with p image single ran = record { is_run = ran.run; resumed = left_at p image (image_left p image single ran) }
 
-one_each : (p : Plan) (image : ImageContents) → IsTrue (is_built p.setup) → one.last_image (one_world p) 0 ≡ Some image → (i : ℕ) → i < p.setup.processors → slice_get (image ∷ []) i ≡ image_after p i
-one_each p image built last zero below = sym (one_image p 0 built ∙ last)
-one_each p image built last (suc i) below = absurd (omega (arith, below, processors_is p.setup built))
-
-pub one_after : OneLaws → (p : Plan) (image : ImageContents) → IsPlayable p → IsTrue (is_built p.setup) → one.last_image (one_world p) 0 ≡ Some image → AreImagesAfter p (image ∷ [])
-one_after laws p image playable built last =
-    let single = the_image p playable built in
-    let same : image ≡ following p single.0 = some_is image (following p single.0) (sym last ∙ last_is laws p single.0 playable built single.1) in
-    let P : List ImageContents → Type 0 = λ xs. All (λ i. i.kind ≡ p.setup.kind) xs in
-    let first : single.0.kind ≡ p.setup.kind = All-head (λ i. i.kind ≡ p.setup.kind) single.0 [] (subst P single.1 playable.images.kind) in
-    let kind : image.kind ≡ p.setup.kind = ap (λ i. i.kind) same ∙ laws.kind (platform_of p.setup) 0 (one_start.first_registers_of p.setup 0 single.0) single.0 (one_labels p) ∙ first in
-    record {
-      serve = record { count = sym (processors_is p.setup built); kind = All-cons (λ i. i.kind ≡ p.setup.kind) image [] kind (All-nil (λ i. i.kind ≡ p.setup.kind)) };
-      each = one_each p image built last;
-    }
+pub one_follows : (p : Plan) → IsPlayable p → p.setup.processors ≡ 1 → FollowsLabels p
+one_follows p playable single =
+    let only = one_of p.images (playable.images.count ∙ single) in
+    let P : List ImageContents → Type 0 = λ (images : List ImageContents). FollowsLabels (record p { images = images }) in
+    subst P (sym only.1) (follows_with p only.0 single (law p only.0 playable single))

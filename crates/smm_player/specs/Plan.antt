@@ -1,7 +1,8 @@
 -- What a replay works on.
-use Rattle.std.specs.Prelude.{ℕ, ◌≡◌, ◌<◌, ◌≤◌, List, All, None}
+use Rattle.std.specs.Prelude.{ℕ, ◌≡◌, ◌<◌, ◌≤◌, IsTrue, List, All, None}
 use Rattle.save_state_map.specs.Images.{ImageContents}
 use Rattle.cpu_table.specs.Data.{SetupData, data_of}
+use Rattle.cpu_table.specs.Ranges.{policy_fits, waves_fit, handlers_fit}
 use Rattle.rendezvous_core.specs.Starts.{start_refusal, AreImagesOf}
 use Rattle.smm_player.specs.declared.inputs.Inputs.{Inputs}
 
@@ -18,10 +19,13 @@ plan setup images actors = record { setup = setup; images = images; actors = act
 abbrev pub plan_of : Inputs → Plan
 plan_of inputs = plan (data_of inputs.setup) inputs.images.items inputs.actors.items
 
--- the platform has a visit; there is an image of its kind for each processor, with which the processor can begin; and it
--- has each actor
+-- the platform has a visit, and its policy, waves and handlers are in their ranges; there is an image of its kind for each
+-- processor, with which the processor can begin; and it has each actor
 pub record IsPlayable (p : Plan) : Type 0 where
   pub visits : 0 < p.setup.visits
+  pub policy : IsTrue (policy_fits p.setup.processors p.setup.policy)
+  pub waves : IsTrue (waves_fit p.setup.processors p.setup.visits p.setup.waves)
+  pub handlers : IsTrue (handlers_fit p.setup.handlers)
   pub images : AreImagesOf p.setup p.images
   pub relocatable : start_refusal p.setup p.images ≡ None
   pub known : All (λ actor. actor ≤ p.setup.processors) p.actors

@@ -1,8 +1,7 @@
 -- What `play` promises at each exit status.
-use Rattle.std.specs.Prelude.{ℕ, ◌≡◌, ◌≢◌, ◌==◌, ◌⊎◌, Bool, ◌||◌, List, Option, None, Some, Ok, Err, IsOk, IfSome, IsTrue, true}
+use Rattle.std.specs.Prelude.{ℕ, ◌≡◌, ◌≢◌, ◌==◌, ◌⊎◌, Bool, ◌||◌, List, Option, None, Some, Ok, Err, IsOk, IfSome, true}
 use Rattle.smm_base.specs.Sink.{appended, GainsPrefix}
 use Rattle.smm_base.specs.Store.{FileMap, ChangesOnly}
-use Rattle.one_processor.specs.Setups.{is_built}
 use Rattle.smm_player.specs.declared.command.Step.{Step}
 use Rattle.smm_player.specs.declared.command.Command.{Command}
 use Rattle.smm_player.specs.declared.command.Command.TheVariants as command
@@ -27,8 +26,8 @@ pub record IsDone (asked : Command) (files files' : Option FileMap) (before afte
   pub saved : IsSaved outcome.saving files'
 
 -- A step was done: the plan that is due, the report of its replay, and under AFTER the image that each processor last resumed
--- from, in the platform's kind. On a platform that the core for one processor plays the report's labels are a run of the
--- rendezvous machine, and the image follows from them.
+-- from, in the platform's kind. On a platform of one processor the report's labels are a run of the rendezvous machine, and
+-- the image follows from them.
 pub record IsStepped (names : Step) (files files' : Option FileMap) (before after : Option (List ℕ)) : Type 0 where
   pub plan : Plan
   pub playable : IsPlayable plan
@@ -36,7 +35,7 @@ pub record IsStepped (names : Step) (files files' : Option FileMap) (before afte
   pub written : after ≡ appended before (report_of plan)
   pub images : AreImagesAfter plan (replayed plan).images
   pub saved : IsSaved (Some (saving_of names plan)) files'
-  pub follows : IsTrue (is_built plan.setup) → FollowsLabels plan
+  pub follows : plan.setup.processors ≡ 1 → FollowsLabels plan
 
 -- what each command has done
 abbrev pub IsPlayed : Command → Option FileMap → Option FileMap → Option (List ℕ) → Option (List ℕ) → Type 0

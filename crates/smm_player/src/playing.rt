@@ -15,7 +15,6 @@ use crate::ending::{end_without_memory, finish, tell};
 use crate::fault::Fault;
 use crate::load::load_inputs;
 use crate::step::replay_inputs;
-use one_processor::every_schedule;
 use smm_base::{Sink, Store};
 use std::alloc::Global;
 
@@ -66,7 +65,6 @@ fn obey<F: Store, K: Sink>(alloc: Global, command: &Command, store: &mut F, out:
     ensures store_moved { Leads F.moves store.old store.new }
     ensures sink_moved { Leads K.moves out.old out.new }
 {
-    every_schedule();
     let done = perform(alloc, command, store, out);
     finish(alloc, done, out)
 }
@@ -74,7 +72,8 @@ fn obey<F: Store, K: Sink>(alloc: Global, command: &Command, store: &mut F, out:
 /// Does the command of the words, and answers the exit status. There is one command yet, `step
 /// PLATFORM IMAGES SCHEDULE AFTER`: it replays the schedule on the platform, writes the report to the
 /// sink, and saves the images that the processors last resumed from, or their first ones, under the
-/// name AFTER, as an image file of the platform's kind.
+/// name AFTER, as an image file of the platform's kind. Every platform that a platform file can describe
+/// is played.
 ///
 /// | status | line | when |
 /// |---|---|---|
@@ -120,8 +119,8 @@ pub fn play<F: Store, K: Sink>(alloc: Global, words: &Vec<String>, store: &mut F
     ensures done { result ≡ 0 → IsSomeAnd (form_of (texts words.now.items)) (λ asked. IsDone asked (F.files store.old) (F.files store.new) (K.written out.old) (K.written out.new)) }
 
     // Of a step that is the report of the replay that is due, and under AFTER the image that each processor last resumed
-    // from, in the platform's kind. On a platform that the core for one processor plays the labels are a run of the
-    // rendezvous machine, from which the image follows.
+    // from, in the platform's kind. On a platform of one processor the labels are a run of the rendezvous machine, from
+    // which the image follows.
     ensures played { result ≡ 0 → IsSomeAnd (form_of (texts words.now.items)) (λ asked. IsPlayed asked (F.files store.old) (F.files store.new) (K.written out.old) (K.written out.new)) }
 
     // Status 1 comes exactly where the words are of no form, unless there is no memory.

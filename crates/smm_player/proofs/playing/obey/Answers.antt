@@ -1,12 +1,10 @@
 use Rattle.smm_base.specs.Calls.{leads_on, rose_later, rose_further}
 use Rattle.smm_base.specs.Faults.{Rose}
 use Rattle.smm_player.proofs.PlayLemmas.{command_obeys}
-use Rattle.smm_player.proofs.ReplayLemmas.{one_follows}
 use Rattle.smm_player.proofs.playing.obey.Goals as goal
 
 pub returns-clause-obeys : goal.returns-clause-obeys
 returns-clause-obeys g c =
-    let laws = c.every_schedule.ensures in
     command_obeys c.perform-done.result c.args.command.now (g.F.Store.files c.args.store.now) (g.F.Store.files c.perform-done.new.store)
     (Rose (g.F.Store.failed_loads c.args.store.now) (g.F.Store.failed_loads c.perform-done.new.store))
     (Rose (g.K.Sink.faults c.args.out.now) (g.K.Sink.faults c.perform-done.new.out))
@@ -17,7 +15,6 @@ returns-clause-obeys g c =
     (λ rose. rose_later g.K.Sink.faults g.met.K.Sink.never_falls c.args.out.now c.perform-done.new.out c.finish.new.out c.perform-done.ensures.sink_moved rose)
     (g.K.Sink.written c.args.out.now) (g.K.Sink.written c.perform-done.new.out) (g.K.Sink.written c.finish.new.out) c.finish.result
     c.perform-done.ensures.done c.perform-done.ensures.cause c.perform-done.ensures.wrote c.perform-done.ensures.unsaved c.perform-done.ensures.others_stay
-    (one_follows (record { runs = laws.built_run; lasts = laws.built_after; resumed = laws.resumed; kind = laws.kind }))
     c.finish.ensures.done c.finish.ensures.finishes
 
 pub returns-clause-sink_moved : goal.returns-clause-sink_moved

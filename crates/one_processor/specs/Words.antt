@@ -1,9 +1,0 @@
--- How a refusal is printed.
-use Rattle.std.specs.Prelude.{ℕ, List, ◌++◌, codes, decimal}
-use Rattle.one_processor.specs.declared.error.WorldError.{WorldError}
-use Rattle.one_processor.specs.declared.error.WorldError.TheVariants.{NoRelocation, NotDefault, NoMemory}
-
-abbrev pub refusal_text : WorldError → List ℕ
-refusal_text (NoRelocation i) = codes "no-relocation " ++ decimal i
-refusal_text (NotDefault i) = codes "not-default " ++ decimal i
-refusal_text NoMemory = codes "no memory"
