@@ -28,3 +28,5 @@ pub mod Closes
 pub mod Turns
 pub mod ClosedFrames
 pub mod Locks
+pub mod Served
+pub mod Desks
