@@ -25,8 +25,8 @@ pub mod Loops
 pub mod Counts
 pub mod GatherLooks
 pub mod Closes
-pub mod Turns
 pub mod ClosedFrames
 pub mod Locks
 pub mod Served
 pub mod Desks
+pub mod Turns
