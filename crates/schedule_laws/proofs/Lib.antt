@@ -20,3 +20,7 @@ pub mod WorkRuns
 pub mod SessionFrames
 pub mod Loops
 pub mod ClosedFrames
+pub mod ExitWays
+pub mod Served
+pub mod Exits
+pub mod Releases
