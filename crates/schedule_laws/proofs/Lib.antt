@@ -2,6 +2,7 @@ pub mod Scenes
 pub mod Stations
 pub mod Leads
 pub mod Sums
+pub mod HandlerFits
 pub mod Invariant
 pub mod Frames
 pub mod OwnFrames
@@ -18,9 +19,17 @@ pub mod Reports
 pub mod Works
 pub mod WorkRuns
 pub mod SessionFrames
+pub mod Elections
+pub mod Gatherings
 pub mod Loops
+pub mod Counts
+pub mod GatherLooks
+pub mod Closes
+pub mod Turns
 pub mod ClosedFrames
 pub mod ExitWays
 pub mod Served
 pub mod Exits
 pub mod Releases
+pub mod Locks
+pub mod Desks

@@ -118,7 +118,7 @@ count_out d c i s m t b f l e q =
     let st : c.stage ≤ 9 = open_stage d c s m g z in
     let none : v.departed ≡ 0 = own.team.departed_open st in
     let some : 1 ≤ s.words.counter = counted_some d c i s m g l st (ap (λ (x : View). member_of x.station) (view_is s m i t (CountingOut b) e q)) in
-    simp (ne_eqb s.words.counter locked z, ne_eqb s.words.counter 0 (λ y. omega arith)) (refl, (own.self.phase, not_led d c i s m g nb, not_closed d c s m g st), seated d c s (record s.words { counter = s.words.counter - 1 }) s.lying (with_member i (record (member m i) { phase = Gone }) m) i (record t { position = AwaitingEnd }) ls (member_holds d c i s m t (record t { position = AwaitingEnd }) (CountingOut b) s.words.pend (s.words.counter - 1) (record (member m i) { phase = Gone }) h (record { size = refl; held = λ k n. refl; chair = refl }) refl g.signals (λ _. omega arith) (λ y. absurd (omega arith)) (omega arith) (λ y. record { lies = y.lies; finished = y.finished }) refl refl (omega arith) (quitting d c m.waves i 0 v st nb own) (λ y. quitting_run d c m.waves i (get_or s.words.run i 0) v st nb own y))))
+    simp (ne_eqb s.words.counter locked z, ne_eqb s.words.counter 0 (λ y. omega arith)) (refl, (own.self.phase, not_led d c i s m g nb, not_closed d c s m g st), seated d c s (record s.words { counter = s.words.counter - 1 }) s.lying (with_member i (record (member m i) { phase = Gone }) m) i (record t { position = AwaitingEnd }) ls (member_holds d c i s m t (record t { position = AwaitingEnd }) (CountingOut b) s.words.pend (s.words.counter - 1) (record (member m i) { phase = Gone }) h (record { size = refl; held = λ k n. refl; chair = refl }) refl g.signals (λ _. omega arith) (λ y. absurd (omega arith)) (omega arith) (λ y. record { lies = y.lies; finished = y.finished; ran = y.ran }) refl refl (omega arith) (quitting d c m.waves i 0 v st nb own) (λ y. quitting_run d c m.waves i (get_or s.words.run i 0) v st nb own y))))
     (cases_eq s.words.counter locked)
 
 pub seek_bsp : (d : SetupData) (c : Context) (i : ℕ) (s : Scene) (m : Machine) (t : Seat) (b : ℕ) → Holds d c s m → i < d.processors → seat s i ≡ t → t.position ≡ (SeekingBsp b)
@@ -165,7 +165,7 @@ report d c i s m t f l e q =
       refl,
       (own.self.phase, other_bsp d c i s m g nb (omega arith)),
       seated d c s words (record s.lying { present = lies }) (with_member i x m) i t' ls
-          (present_holds d c i s m t t' Reporting 1 lies o x h (keeps_own i t None TellingReport) (length-set s.lying.present i o) (get_or-set_same s.lying.present i o None lp) (λ j n. get_or-set_other s.lying.present i j o None n) (λ _. refl) (omega arith) (λ y. record { lies = y.lies; finished = y.finished }) refl refl refl
+          (present_holds d c i s m t t' Reporting 1 lies o x h (keeps_own i t None TellingReport) (length-set s.lying.present i o) (get_or-set_same s.lying.present i o None lp) (λ j n. get_or-set_other s.lying.present i j o None n) (λ _. refl) (omega arith) (λ y. record { lies = y.lies; finished = y.finished; ran = y.ran }) refl refl refl
           (subst (λ (k : Option Desk). IsCpu d c m.waves i (record v { station = station_of TellingReport; own = k; present = 1; on_present = o; phase = Here })) (sym gone) (reporting d c m.waves i 0 v o refl early unreleased absent nb own)) (λ y. subst (λ (k : Option Desk). IsRunOf c i (record v { station = station_of TellingReport; own = k; present = 1; on_present = o; phase = Here }) (get_or s.words.run i 0)) (sym gone) (reporting_run d c m.waves i (get_or s.words.run i 0) v o refl early unreleased absent nb own y))),
     )
 

@@ -56,7 +56,7 @@ look_inside d c i s m t source f l e q =
     ⊎_elim
     (λ (z : s.words.inside ≡ 0).
     ⊎_elim
-    (λ (b : eqb source 0 ≡ true). simp (b, eq-eqb s.words.inside 0 z) (refl, (own.self.phase, not_at_work d c s m g z), seated d c s s.words s.lying (with_member i (record (member m i) { phase = Gone }) m) i (record t { position = AwaitingEnd }) ls (member_holds d c i s m t (record t { position = AwaitingEnd }) (LookingInside source) s.words.pend s.words.counter (record (member m i) { phase = Gone }) h (record { size = refl; held = λ k n. refl; chair = refl }) refl g.signals (λ _. omega arith) (λ _. refl) (omega arith) (λ y. record { lies = y.lies; finished = y.finished }) refl refl refl (turning d c m.waves i 0 v nb own) (λ y. turning_run d c m.waves i (get_or s.words.run i 0) v nb own y))))
+    (λ (b : eqb source 0 ≡ true). simp (b, eq-eqb s.words.inside 0 z) (refl, (own.self.phase, not_at_work d c s m g z), seated d c s s.words s.lying (with_member i (record (member m i) { phase = Gone }) m) i (record t { position = AwaitingEnd }) ls (member_holds d c i s m t (record t { position = AwaitingEnd }) (LookingInside source) s.words.pend s.words.counter (record (member m i) { phase = Gone }) h (record { size = refl; held = λ k n. refl; chair = refl }) refl g.signals (λ _. omega arith) (λ _. refl) (omega arith) (λ y. record { lies = y.lies; finished = y.finished; ran = y.ran }) refl refl refl (turning d c m.waves i 0 v nb own) (λ y. turning_run d c m.waves i (get_or s.words.run i 0) v nb own y))))
     (λ (b : eqb source 0 ≡ false). simp b (refl, tt, seated d c s s.words s.lying m i (record t { position = CountingIn source s.words.inside }) ls (seat_holds d c i s m t (record t { position = CountingIn source s.words.inside }) (LookingInside source) s.words.pend h (record { size = refl; held = λ k n. refl; chair = refl }) refl g.signals refl refl (looking_inside d c m.waves i 0 v nb own) (λ y. looking_inside_run d c m.waves i (get_or s.words.run i 0) v nb own y))))
     (cases_Bool (eqb source 0)))
     (λ (z : s.words.inside ≢ 0).
@@ -78,7 +78,7 @@ arrives d c i s m t Elected source inside f l e q st =
     let nb : i ≢ c.bsp = h.other in
     let ls : i < length s.seats = rw g.sized.seats l in
     let none : v.departed ≡ 0 = own.team.departed_open st in
-    seated d c s (record s.words { counter = s.words.counter + 1 }) s.lying (with_member i (record (member m i) { phase = Counted }) m) i (record t { position = ClaimingChair source inside }) ls (member_holds d c i s m t (record t { position = ClaimingChair source inside }) (CountingIn source inside) s.words.pend (s.words.counter + 1) (record (member m i) { phase = Counted }) h (record { size = refl; held = λ k n. refl; chair = refl }) refl g.signals (λ _. omega arith) (λ y. absurd (omega arith)) (omega arith) (λ y. record { lies = y.lies; finished = y.finished }) refl refl (omega arith) (arriving_first d c m.waves i 0 v st nb own) (λ y. arriving_first_run d c m.waves i (get_or s.words.run i 0) v st nb own y))
+    seated d c s (record s.words { counter = s.words.counter + 1 }) s.lying (with_member i (record (member m i) { phase = Counted }) m) i (record t { position = ClaimingChair source inside }) ls (member_holds d c i s m t (record t { position = ClaimingChair source inside }) (CountingIn source inside) s.words.pend (s.words.counter + 1) (record (member m i) { phase = Counted }) h (record { size = refl; held = λ k n. refl; chair = refl }) refl g.signals (λ _. omega arith) (λ y. absurd (omega arith)) (omega arith) (λ y. record { lies = y.lies; finished = y.finished; ran = y.ran }) refl refl (omega arith) (arriving_first d c m.waves i 0 v st nb own) (λ y. arriving_first_run d c m.waves i (get_or s.words.run i 0) v st nb own y))
 arrives d c i s m t (Fixed b) source inside f l e q st =
     let g = f.ready in
     let v : View = view_at (station_of (CountingIn source inside)) t s m i in
@@ -87,7 +87,7 @@ arrives d c i s m t (Fixed b) source inside f l e q st =
     let nb : i ≢ c.bsp = h.other in
     let ls : i < length s.seats = rw g.sized.seats l in
     let none : v.departed ≡ 0 = own.team.departed_open st in
-    seated d c s (record s.words { counter = s.words.counter + 1 }) s.lying (with_member i (record (member m i) { phase = Counted }) m) i (record t { position = AskingForChair source inside }) ls (member_holds d c i s m t (record t { position = AskingForChair source inside }) (CountingIn source inside) s.words.pend (s.words.counter + 1) (record (member m i) { phase = Counted }) h (record { size = refl; held = λ k n. refl; chair = refl }) refl g.signals (λ _. omega arith) (λ y. absurd (omega arith)) (omega arith) (λ y. record { lies = y.lies; finished = y.finished }) refl refl (omega arith) (arriving_owner d c m.waves i 0 v st nb own) (λ y. arriving_owner_run d c m.waves i (get_or s.words.run i 0) v st nb own y))
+    seated d c s (record s.words { counter = s.words.counter + 1 }) s.lying (with_member i (record (member m i) { phase = Counted }) m) i (record t { position = AskingForChair source inside }) ls (member_holds d c i s m t (record t { position = AskingForChair source inside }) (CountingIn source inside) s.words.pend (s.words.counter + 1) (record (member m i) { phase = Counted }) h (record { size = refl; held = λ k n. refl; chair = refl }) refl g.signals (λ _. omega arith) (λ y. absurd (omega arith)) (omega arith) (λ y. record { lies = y.lies; finished = y.finished; ran = y.ran }) refl refl (omega arith) (arriving_owner d c m.waves i 0 v st nb own) (λ y. arriving_owner_run d c m.waves i (get_or s.words.run i 0) v st nb own y))
 
 -- what comes after its entry depends on what it found in `inside`
 arrival : (d : SetupData) (i : ℕ) (s : Scene) (m : Machine) (p : Processor) (policy : Policy) (source inside : ℕ) (words : Words)
@@ -108,7 +108,7 @@ count_in d c i s m t source inside f l e q =
     ⊎_elim
     (λ (z : s.words.counter ≡ locked).
     let st : 10 ≤ c.stage = locked_stage d c s m g z in
-    simp (eq-eqb s.words.counter locked z) (refl, (own.self.phase, is_closed d c s m g st), seated d c s s.words s.lying (with_member i (record (member m i) { phase = Gone }) m) i (record t { position = AwaitingEnd }) ls (member_holds d c i s m t (record t { position = AwaitingEnd }) (CountingIn source inside) s.words.pend s.words.counter (record (member m i) { phase = Gone }) h (record { size = refl; held = λ k n. refl; chair = refl }) refl g.signals (λ _. omega arith) (λ _. refl) (omega arith) (λ y. record { lies = y.lies; finished = y.finished }) refl refl refl (coming_late d c m.waves i 0 v nb own) (λ y. coming_late_run d c m.waves i (get_or s.words.run i 0) v nb own y))))
+    simp (eq-eqb s.words.counter locked z) (refl, (own.self.phase, is_closed d c s m g st), seated d c s s.words s.lying (with_member i (record (member m i) { phase = Gone }) m) i (record t { position = AwaitingEnd }) ls (member_holds d c i s m t (record t { position = AwaitingEnd }) (CountingIn source inside) s.words.pend s.words.counter (record (member m i) { phase = Gone }) h (record { size = refl; held = λ k n. refl; chair = refl }) refl g.signals (λ _. omega arith) (λ _. refl) (omega arith) (λ y. record { lies = y.lies; finished = y.finished; ran = y.ran }) refl refl refl (coming_late d c m.waves i 0 v nb own) (λ y. coming_late_run d c m.waves i (get_or s.words.run i 0) v nb own y))))
     (λ (z : s.words.counter ≢ locked).
     let st : c.stage ≤ 9 = open_stage d c s m g z in
     let none : v.departed ≡ 0 = own.team.departed_open st in
@@ -116,7 +116,7 @@ count_in d c i s m t source inside f l e q =
     (λ (b : eqb inside 0 ≡ true). simp (ne_eqb s.words.counter locked z, b)
     (refl, (own.self.phase, not_closed d c s m g st), arrival d i s (with_member i (record (member m i) { phase = Counted }) m) (processor_at d i (CountingIn source inside) t) d.policy source inside (record s.words { counter = s.words.counter + 1 }) (arrives d c i s m t d.policy source inside f l e q st)))
     (λ (b : eqb inside 0 ≡ false). simp (ne_eqb s.words.counter locked z, b)
-    (refl, (own.self.phase, not_closed d c s m g st), seated d c s (record s.words { counter = s.words.counter + 1 }) s.lying (with_member i (record (member m i) { phase = Counted }) m) i (record t { position = AwaitingInside 0 }) ls (member_holds d c i s m t (record t { position = AwaitingInside 0 }) (CountingIn source inside) s.words.pend (s.words.counter + 1) (record (member m i) { phase = Counted }) h (record { size = refl; held = λ k n. refl; chair = refl }) refl g.signals (λ _. omega arith) (λ y. absurd (omega arith)) (omega arith) (λ y. record { lies = y.lies; finished = y.finished }) refl refl (omega arith) (arriving d c m.waves i 0 v st nb own) (λ y. arriving_run d c m.waves i (get_or s.words.run i 0) v st nb own y))))
+    (refl, (own.self.phase, not_closed d c s m g st), seated d c s (record s.words { counter = s.words.counter + 1 }) s.lying (with_member i (record (member m i) { phase = Counted }) m) i (record t { position = AwaitingInside 0 }) ls (member_holds d c i s m t (record t { position = AwaitingInside 0 }) (CountingIn source inside) s.words.pend (s.words.counter + 1) (record (member m i) { phase = Counted }) h (record { size = refl; held = λ k n. refl; chair = refl }) refl g.signals (λ _. omega arith) (λ y. absurd (omega arith)) (omega arith) (λ y. record { lies = y.lies; finished = y.finished; ran = y.ran }) refl refl (omega arith) (arriving d c m.waves i 0 v st nb own) (λ y. arriving_run d c m.waves i (get_or s.words.run i 0) v st nb own y))))
     (cases_Bool (eqb inside 0)))
     (cases_eq s.words.counter locked)
 
@@ -149,8 +149,8 @@ clears d c i s m t pend f l e q lp sig =
     let same : t.visits ≡ (member m i).visits = own.self.visits in
     let most : (member m i).visits ≤ d.visits = own.self.most in
     ⊎_elim
-    (λ (z : t.visits < d.visits). let left : v.visits < d.visits = omega arith in rw (lt-leb d.visits t.visits z) (seated d c s (record s.words { pend = pend }) s.lying (with_member i (record (member m i) { phase = Out; registers = loaded (member m i).image; last = (member m i).image }) m) i (record t { position = AwaitingSmi; registers = loaded (member m i).image; last = (member m i).image }) ls (member_holds d c i s m t (record t { position = AwaitingSmi; registers = loaded (member m i).image; last = (member m i).image }) ClearingSignal pend s.words.counter (record (member m i) { phase = Out; registers = loaded (member m i).image; last = (member m i).image }) h (record { size = refl; held = λ k n. refl; chair = refl }) lp sig (λ _. omega arith) (λ _. refl) (omega arith) (λ y. record { lies = y.lies; finished = y.finished }) refl refl refl (resuming d c m.waves i 0 v (loaded (member m i).image) (member m i).image left nb own) (λ y. resuming_run d c m.waves i (get_or s.words.run i 0) v (loaded (member m i).image) (member m i).image left nb own y))))
-    (λ (z : d.visits ≤ t.visits). let left : v.visits ≡ d.visits = omega arith in rw (le-leb d.visits t.visits z) (seated d c s (record s.words { pend = pend }) s.lying (with_member i (record (member m i) { phase = Out; registers = loaded (member m i).image; last = (member m i).image }) m) i (record t { position = SwitchingOff; registers = loaded (member m i).image; last = (member m i).image }) ls (member_holds d c i s m t (record t { position = SwitchingOff; registers = loaded (member m i).image; last = (member m i).image }) ClearingSignal pend s.words.counter (record (member m i) { phase = Out; registers = loaded (member m i).image; last = (member m i).image }) h (record { size = refl; held = λ k n. refl; chair = refl }) lp sig (λ _. omega arith) (λ _. refl) (omega arith) (λ y. record { lies = y.lies; finished = y.finished }) refl refl refl (resuming_last d c m.waves i 0 v (loaded (member m i).image) (member m i).image left nb own) (λ y. resuming_last_run d c m.waves i (get_or s.words.run i 0) v (loaded (member m i).image) (member m i).image left nb own y))))
+    (λ (z : t.visits < d.visits). let left : v.visits < d.visits = omega arith in rw (lt-leb d.visits t.visits z) (seated d c s (record s.words { pend = pend }) s.lying (with_member i (record (member m i) { phase = Out; registers = loaded (member m i).image; last = (member m i).image }) m) i (record t { position = AwaitingSmi; registers = loaded (member m i).image; last = (member m i).image }) ls (member_holds d c i s m t (record t { position = AwaitingSmi; registers = loaded (member m i).image; last = (member m i).image }) ClearingSignal pend s.words.counter (record (member m i) { phase = Out; registers = loaded (member m i).image; last = (member m i).image }) h (record { size = refl; held = λ k n. refl; chair = refl }) lp sig (λ _. omega arith) (λ _. refl) (omega arith) (λ y. record { lies = y.lies; finished = y.finished; ran = y.ran }) refl refl refl (resuming d c m.waves i 0 v (loaded (member m i).image) (member m i).image left nb own) (λ y. resuming_run d c m.waves i (get_or s.words.run i 0) v (loaded (member m i).image) (member m i).image left nb own y))))
+    (λ (z : d.visits ≤ t.visits). let left : v.visits ≡ d.visits = omega arith in rw (le-leb d.visits t.visits z) (seated d c s (record s.words { pend = pend }) s.lying (with_member i (record (member m i) { phase = Out; registers = loaded (member m i).image; last = (member m i).image }) m) i (record t { position = SwitchingOff; registers = loaded (member m i).image; last = (member m i).image }) ls (member_holds d c i s m t (record t { position = SwitchingOff; registers = loaded (member m i).image; last = (member m i).image }) ClearingSignal pend s.words.counter (record (member m i) { phase = Out; registers = loaded (member m i).image; last = (member m i).image }) h (record { size = refl; held = λ k n. refl; chair = refl }) lp sig (λ _. omega arith) (λ _. refl) (omega arith) (λ y. record { lies = y.lies; finished = y.finished; ran = y.ran }) refl refl refl (resuming_last d c m.waves i 0 v (loaded (member m i).image) (member m i).image left nb own) (λ y. resuming_last_run d c m.waves i (get_or s.words.run i 0) v (loaded (member m i).image) (member m i).image left nb own y))))
     (cases_lt t.visits d.visits)
 
 pub clear_signal : (d : SetupData) (c : Context) (i : ℕ) (s : Scene) (m : Machine) (t : Seat) → Holds d c s m → i < d.processors → seat s i ≡ t → t.position ≡ ClearingSignal
@@ -187,7 +187,7 @@ switch_off d c i s m t f l e q =
     let ls : i < length s.seats = rw g.sized.seats l in
     let full : v.visits ≡ d.visits = own.self.through refl in
     let some : 1 ≤ m.waves = own.self.begun (omega (arith, g.platform.visits)) in
-    (refl, (own.self.phase, inr full), seated d c s (record s.words { pend = slice_set s.words.pend i 4 }) s.lying (with_member i (record (member m i) { phase = Off }) m) i (record t { position = Away }) ls (member_holds d c i s m t (record t { position = Away }) SwitchingOff (slice_set s.words.pend i 4) s.words.counter (record (member m i) { phase = Off }) h (record { size = refl; held = λ k n. refl; chair = refl }) (length-set s.words.pend i 4) (signal_set d m m.waves i 4 s.words.pend g.sized.pend g.signals (λ _. record { some = λ _. some; off = λ _ y. absurd (omega arith) })) (λ _. omega arith) (λ _. refl) (omega arith) (λ y. record { lies = y.lies; finished = y.finished }) refl refl refl (switching_off d c m.waves i 0 v nb own) (λ y. switching_off_run d c m.waves i (get_or s.words.run i 0) v nb own y)))
+    (refl, (own.self.phase, inr full), seated d c s (record s.words { pend = slice_set s.words.pend i 4 }) s.lying (with_member i (record (member m i) { phase = Off }) m) i (record t { position = Away }) ls (member_holds d c i s m t (record t { position = Away }) SwitchingOff (slice_set s.words.pend i 4) s.words.counter (record (member m i) { phase = Off }) h (record { size = refl; held = λ k n. refl; chair = refl }) (length-set s.words.pend i 4) (signal_set d m m.waves i 4 s.words.pend g.sized.pend g.signals (λ _. record { some = λ _. some; off = λ _ y. absurd (omega arith) })) (λ _. omega arith) (λ _. refl) (omega arith) (λ y. record { lies = y.lies; finished = y.finished; ran = y.ran }) refl refl refl (switching_off d c m.waves i 0 v nb own) (λ y. switching_off_run d c m.waves i (get_or s.words.run i 0) v nb own y)))
 
 -- a desk into whose image registers are saved
 abbrev desk_saved : Registers → Cause → Desk → Desk
@@ -212,7 +212,7 @@ await_smi d c i s m t f l e q =
     let z = g.signals i l in
     let left : v.visits < d.visits = own.self.waiting refl in
     ⊎_elim
-    (λ (b : x ≡ 4). simp (eq-eqb x 4 b, ne_eqb x 1 (λ y. omega arith)) (refl, (own.self.phase, inl (z.off (omega arith) left)), seated d c s s.words s.lying (with_member i (record (member m i) { phase = Off }) m) i (record t { position = Away }) ls (member_holds d c i s m t (record t { position = Away }) AwaitingSmi s.words.pend s.words.counter (record (member m i) { phase = Off }) h (record { size = refl; held = λ k n. refl; chair = refl }) refl g.signals (λ _. omega arith) (λ _. refl) (omega arith) (λ y. record { lies = y.lies; finished = y.finished }) refl refl refl (turned_off d c m.waves i 0 v nb own) (λ y. turned_off_run d c m.waves i (get_or s.words.run i 0) v nb own y))))
+    (λ (b : x ≡ 4). simp (eq-eqb x 4 b, ne_eqb x 1 (λ y. omega arith)) (refl, (own.self.phase, inl (z.off (omega arith) left)), seated d c s s.words s.lying (with_member i (record (member m i) { phase = Off }) m) i (record t { position = Away }) ls (member_holds d c i s m t (record t { position = Away }) AwaitingSmi s.words.pend s.words.counter (record (member m i) { phase = Off }) h (record { size = refl; held = λ k n. refl; chair = refl }) refl g.signals (λ _. omega arith) (λ _. refl) (omega arith) (λ y. record { lies = y.lies; finished = y.finished; ran = y.ran }) refl refl refl (turned_off d c m.waves i 0 v nb own) (λ y. turned_off_run d c m.waves i (get_or s.words.run i 0) v nb own y))))
     (λ (b : x ≢ 4).
     ⊎_elim
     (λ (u : x ≡ 1).
@@ -225,7 +225,7 @@ await_smi d c i s m t f l e q =
     let o : Option Desk = put t.registers t.visits (get_or t.held i None) in
     let is : o ≡ Some (desk_at new None) = ap (put t.registers t.visits) (own.self.own refl refl) ∙ ap (λ (r : Registers). put r t.visits (Some (desk_at (member m i).image None))) own.self.registers ∙ ap (λ (n : ℕ). put (member m i).registers n (Some (desk_at (member m i).image None))) own.self.visits in
     let desk : get_or (slice_set t.held i o) i None ≡ Some (desk_at new None) = own_put d c i s m t AwaitingSmi o h ∙ is in
-    simp (ne_eqb x 4 b, eq-eqb x 1 u) (refl, (own.self.phase, left, some), seated d c s (record s.words { pend = slice_set s.words.pend i 8 }) s.lying (with_member i (record (member m i) { phase = In; visits = (member m i).visits + 1; image = new }) m) i (record t { position = LookingAtSource; visits = t.visits + 1; held = slice_set t.held i o }) ls (member_holds d c i s m t (record t { position = LookingAtSource; visits = t.visits + 1; held = slice_set t.held i o }) AwaitingSmi (slice_set s.words.pend i 8) s.words.counter (record (member m i) { phase = In; visits = (member m i).visits + 1; image = new }) h (record { size = length-set t.held i o; held = λ k n. get_or-set_other t.held i k o None n; chair = refl }) (length-set s.words.pend i 8) (signal_set d m m.waves i 8 s.words.pend g.sized.pend g.signals (λ _. record { some = λ _. some; off = λ a. absurd (omega arith) })) (λ _. omega arith) (λ _. refl) (omega arith) (λ a. record { lies = λ e. absurd (omega arith); finished = λ e. a.finished e }) refl refl refl (entering d c m.waves i 0 v (get_or (slice_set t.held i o) i None) new desk kind absent some nb own) (λ y. entering_run d c m.waves i (get_or s.words.run i 0) v (get_or (slice_set t.held i o) i None) new desk kind absent some nb own y))))
+    simp (ne_eqb x 4 b, eq-eqb x 1 u) (refl, (own.self.phase, left, some), seated d c s (record s.words { pend = slice_set s.words.pend i 8 }) s.lying (with_member i (record (member m i) { phase = In; visits = (member m i).visits + 1; image = new }) m) i (record t { position = LookingAtSource; visits = t.visits + 1; held = slice_set t.held i o }) ls (member_holds d c i s m t (record t { position = LookingAtSource; visits = t.visits + 1; held = slice_set t.held i o }) AwaitingSmi (slice_set s.words.pend i 8) s.words.counter (record (member m i) { phase = In; visits = (member m i).visits + 1; image = new }) h (record { size = length-set t.held i o; held = λ k n. get_or-set_other t.held i k o None n; chair = refl }) (length-set s.words.pend i 8) (signal_set d m m.waves i 8 s.words.pend g.sized.pend g.signals (λ _. record { some = λ _. some; off = λ a. absurd (omega arith) })) (λ _. omega arith) (λ _. refl) (omega arith) (λ a. record { lies = λ e. absurd (omega arith); finished = λ e. a.finished e; ran = λ e. absurd (omega arith) }) refl refl refl (entering d c m.waves i 0 v (get_or (slice_set t.held i o) i None) new desk kind absent some nb own) (λ y. entering_run d c m.waves i (get_or s.words.run i 0) v (get_or (slice_set t.held i o) i None) new desk kind absent some nb own y))))
     (λ (u : x ≢ 1). simp (ne_eqb x 4 b, ne_eqb x 1 u) (stays d c s m f))
     (cases_eq x 1))
     (cases_eq x 4)

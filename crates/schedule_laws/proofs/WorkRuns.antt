@@ -56,9 +56,9 @@ relisted_cpu d c said p waves j v h =
 relisted_run : (c : Context) (said : Option (List Event)) (p : Place) (j : ℕ) (v : View) (run : ℕ) → IsRunOf c j v run → IsRunOf (relisted c said p) j v run
 relisted_run c said p j v run h = record { upto = h.upto; lent = h.lent; so_far = h.so_far; no_more = h.no_more; late = h.late }
 
-relisted_at : (d : SetupData) (c : Context) (said : Option (List Event)) (p : Place) (m : Machine) (t : Seat) → IsAt d c m.registrations m.pool t
+relisted_at : (d : SetupData) (c : Context) (said : Option (List Event)) (p : Place) (m : Machine) (t : Seat) → serving.seat p.state c.bsp ≡ seat_listed c c.bsp → IsAt d c m.registrations m.pool t
     → IsAt d (relisted c said p) m.registrations m.pool t
-relisted_at d c said p m t h =
+relisted_at d c said p m t leads h =
     let k = h.is in
     record {
       lead = h.lead;
@@ -74,14 +74,14 @@ relisted_at d c said p m t h =
         chair = k.chair;
         no_chair = k.no_chair;
         begins = λ z. let y = k.begins z in record { course = y.course; told = y.told };
-        serves = λ z. let y = k.serves z in record { goes_on = y.goes_on; sound = y.sound; told = y.told };
+        serves = λ z. let y = k.serves z in record { goes_on = y.goes_on; fits = y.fits; own = leads ∙ y.own; sound = y.sound; told = y.told };
         collects = λ z. let y = k.collects z in record { over = y.over; next = y.next; other = y.other; owed = y.owed; before = y.before };
       };
     }
 
-relisted_around : (d : SetupData) (c : Context) (said : Option (List Event)) (p : Place) (s : Scene) (m : Machine) → begins_from (mode_of d) < c.stage → IsAround d c s m
+relisted_around : (d : SetupData) (c : Context) (said : Option (List Event)) (p : Place) (s : Scene) (m : Machine) → begins_from (mode_of d) < c.stage → serving.seat p.state c.bsp ≡ seat_listed c c.bsp → IsAround d c s m
     → IsAround d (relisted c said p) s m
-relisted_around d c said p s m late g =
+relisted_around d c said p s m late leads g =
     let x = g.session in
     let y = g.totals in
     let a = g.aim in
@@ -93,7 +93,7 @@ relisted_around d c said p s m late g =
       runs = λ j k n. relisted_run c said p j (view s m j) (get_or s.words.run j 0) (g.runs j k n);
       idle = λ j k n. let h = g.idle j k n in record { size = h.size; held = h.held; chair = h.chair };
       aim = record { signals = a.signals; takes = a.takes; releases = a.releases; dismisses = a.dismisses; gives = a.gives; closes = a.closes; closes_on = a.closes_on };
-      at = λ z. relisted_at d c said p m (seat s c.bsp) (g.at z);
+      at = λ z. relisted_at d c said p m (seat s c.bsp) leads (g.at z);
     }
 
 -- THE PLACE OF THE MACHINE'S LIST
@@ -142,7 +142,7 @@ not_over_goes [] [] (Some b) s e = tt
 
 -- what stays where the job x was run, with this list and this place
 gives_back : (d : SetupData) (c : Context) (i : ℕ) (s : Scene) (m : Machine) (t : Seat) (x : Member) (o : Option Cargo) (said : Option (List Event)) (p : Place)
-    (session : Option Session) → IsMover d c i s m t GivingBack → begins_from (mode_of d) < c.stage → session ≡ Some (record c.session { serving = said })
+    (session : Option Session) → IsMover d c i s m t GivingBack → begins_from (mode_of d) < c.stage → serving.seat p.state c.bsp ≡ seat_listed c c.bsp → session ≡ Some (record c.session { serving = said })
     → IsCourse d (relisted c said p) m.registrations m.pool
     → ((j : ℕ) → j < d.processors → j ≢ c.bsp → IsJobOf d (relisted c said p) j (member (with_member i x m) j).job) → IsBusy x 2 o → x.visits ≡ (member m i).visits
     → x.in_closed_set ≡ (member m i).in_closed_set → x.has_departed ≡ (member m i).has_departed
@@ -150,7 +150,7 @@ gives_back : (d : SetupData) (c : Context) (i : ℕ) (s : Scene) (m : Machine) (
     → IsRunOf c i (view_of (seat_view stations.AwaitingRelease i (record t { position = AwaitingRelease; held = slice_set t.held i None })) (get_or s.words.present i 0) (get_or s.lying.present i None) (get_or s.lying.run i None) x) (get_or s.words.run i 0)
     → Holds d (relisted c said p) (record s { words = record s.words { busy = slice_set s.words.busy i 2 }; lying = record s.lying { busy = slice_set s.lying.busy i o }; seats = slice_set s.seats i (record t { position = AwaitingRelease; held = slice_set t.held i None }) })
     (record (with_member i x m) { session = session })
-gives_back d c i s m t x o said p session h late se course jobs bz ev et ed own run =
+gives_back d c i s m t x o said p session h late leads se course jobs bz ev et ed own run =
     let f = h.holds in
     let g = f.ready in
     let z = g.sized in
@@ -168,7 +168,7 @@ gives_back d c i s m t x o said p session h late se course jobs bz ev et ed own 
     let here : seat s' i ≡ t' = seat_set s i t' ls in
     let new : view s' m' i ≡ v' = rw (get_or-set_same s.seats i t' no_seat ls, get_or-set_same m.members i x nobody lm) refl in
     let keeps : IsIdle d c i t' = keeps_idle d c i s m t t' GivingBack h (keeps_own i t None AwaitingRelease) in
-    peers_move d c' i s s' m m' (view_at (station_of GivingBack) t s m i) v' (get_or s.words.run i 0) (relisted_around d c said p s m late (around d c s m f)) h.there h.other
+    peers_move d c' i s s' m m' (view_at (station_of GivingBack) t s m i) v' (get_or s.words.run i 0) (relisted_around d c said p s m late leads (around d c s m f)) h.there h.other
     (record {
       sized = record { seats = length-set s.seats i t' ∙ z.seats; pend = z.pend; present = z.present; run = z.run; busy = length-set s.words.busy i 2 ∙ z.busy; on_present = z.on_present; on_run = z.on_run; on_busy = length-set s.lying.busy i o ∙ z.on_busy; members = length-set m.members i x ∙ z.members; held = z.held };
       words = record { some_bsp = w.some_bsp; no_bsp = w.no_bsp; bsp_before = w.bsp_before; bsp_taken = w.bsp_taken; bsp_free = w.bsp_free; leads = w.leads; inside_before = w.inside_before; inside = w.inside; inside_after = w.inside_after; insync_before = w.insync_before; insync = w.insync; insync_after = w.insync_after; chair_before = w.chair_before; chair = w.chair; chair_after = w.chair_after; source = w.source; except = w.except; no_session = λ y. absurd (omega arith); session = λ _. se };
@@ -317,7 +317,7 @@ give_back d c i s m t f l e q =
     let word : IsRunOf c i (seen (get_or (slice_set t.held i None) i None) (work_of x.job)) (get_or s.words.run i 0) =
     subst (λ (k : Option Desk). IsRunOf c i (seen k (work_of x.job)) (get_or s.words.run i 0)) (sym gone)
     (subst (λ (n : ℕ). IsRunOf c i (seen None n) (get_or s.words.run i 0)) (sym run_work) (running_job_run d c m.waves i (get_or s.words.run i 0) v x.image x.job kind work free nb own (run_of d c i s m t GivingBack h))) in
-    let ready : IsBusy x 2 o = record { lies = λ _. lies; finished = λ _. run_work } in
+    let ready : IsBusy x 2 o = record { lies = λ _. lies; finished = λ _. run_work; ran = λ _. refl } in
     let event : Event = Ran i J.job.number answer.0 answer.1 in
     let said = place_said d c s m f st in
     let session : m.session ≡ Some c.session = g.words.session some in
@@ -335,7 +335,7 @@ give_back d c i s m t f l e q =
     told ∙ ap (λ (y : Bool). Some (record c.session { serving = grown_unless y event c.session.serving })) over in
     let stops : GoesOn c.chair.course.place → ⊥ = (λ on. over_goes c.place.kinds c.place.walks c.place.begun c.place.state b (subst (λ (y : Place). GoesOn y) (sym same) on)) in
     seated d (relisted c c.session.serving c.place) s words lying (record (with_member i x m) { session = option_map (hears B event) m.session }) i t' ls
-    (gives_back d c i s m t x o c.session.serving c.place (option_map (hears B event) m.session) h late as_is (same_course d c m g.course)
+    (gives_back d c i s m t x o c.session.serving c.place (option_map (hears B event) m.session) h late refl as_is (same_course d c m g.course)
     (moved_jobs d c (relisted c c.session.serving c.place) m i x lm l nb (λ j k n _. same_job d c j (member m j).job (g.jobs j k n))
     (ran_job d c c.session.serving c.place i J.job answer x.job job_is run_job busy (λ on. absurd (stops on))))
     ready refl refl refl cpu word))
@@ -352,7 +352,7 @@ give_back d c i s m t f l e q =
     let p : Place = next (program_of d) c.place event in
     let more : Option (List Event) = Some (said.said ++ event ∷ []) in
     seated d (relisted c more p) s words lying (record (with_member i x m) { session = option_map (hears B event) m.session }) i t' ls
-    (gives_back d c i s m t x o more p (option_map (hears B event) m.session) h late as_is
+    (gives_back d c i s m t x o more p (option_map (hears B event) m.session) h late (get_or-set_other c.place.state.seats i c.bsp (run_at (seat_listed c i) answer.0 answer.1) Free (λ z. nb (sym z))) as_is
     (more_course d c m i J.job.number answer.0 answer.1 said.said late said.is on_place open_listed later g.course)
     (moved_jobs d c (relisted c more p) m i x lm l nb (λ j k n ne. other_job d c (said.said ++ event ∷ []) i j J.job.number answer.0 answer.1 (member m j).job ne (g.jobs j k n))
     (ran_job d c more p i J.job answer x.job job_is run_job busy

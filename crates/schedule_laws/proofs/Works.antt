@@ -158,6 +158,6 @@ withdraw d c i s m t f l e q =
       refl,
       (own.self.phase, all_released d c s m g k.2, bit_true _ k.0),
       seated d c s (record s.words { present = slice_set s.words.present i 0 }) s.lying (with_member i x m) i t' ls
-          (present_holds d c i s m t t' Withdrawing 0 s.lying.present (get_or s.lying.present i None) x h (record { size = refl; held = λ k n. refl; chair = refl }) refl refl (λ j n. refl) (λ z. absurd (omega (arith, k.2))) (omega arith) (λ y. record { lies = y.lies; finished = y.finished }) refl refl refl
+          (present_holds d c i s m t t' Withdrawing 0 s.lying.present (get_or s.lying.present i None) x h (record { size = refl; held = λ k n. refl; chair = refl }) refl refl (λ j n. refl) (λ z. absurd (omega (arith, k.2))) (omega arith) (λ y. record { lies = y.lies; finished = y.finished; ran = y.ran }) refl refl refl
           (departing d c m.waves i 0 v k.0 k.1 k.2 k.3 idle nb own) (λ y. departing_run d c m.waves i (get_or s.words.run i 0) v k.0 k.1 k.2 k.3 idle nb own y)),
     )
