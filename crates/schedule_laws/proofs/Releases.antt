@@ -198,7 +198,7 @@ released_ready d c s m j o g l n e team un out =
       jobs = λ y ly b. resting_job d k c' y (member m' y).job (λ u. absurd (omega arith)) (jobs_more d k m j x lm refl g.jobs y ly b);
       idle = λ y ly b. idle_same d k c' y (seat s y) refl (g.idle y ly b);
       signals = signals_more d m j x s.words.pend lm (omega arith) g.signals;
-      busies = busies_more d m j x s lm (λ y. record { lies = y.lies; finished = y.finished }) g.busies;
+      busies = busies_more d m j x s lm (λ y. record { lies = y.lies; finished = y.finished; ran = y.ran }) g.busies;
     }
 
 release_at : (d : SetupData) (c : Context) (s : Scene) (m : Machine) (t : Seat) (j : ℕ) → t.position ≡ LeadingAt (Releasing j) → Holds d (at_stage c 15 j) s m → seat s c.bsp ≡ t
