@@ -2,7 +2,7 @@
 use Rattle.std.proofs.Common.{ℕ, ◌+◌, ◌-◌, ◌*◌, ◌≡◌, ◌≢◌, ◌<◌, ◌≤◌, ◌⊎◌, inl, inr, arith, Bool, true, false, List, length, get_or, slice_set, Option, Some, None, refl, sym, subst, ap, ⊎_elim, ◌∙◌}
 use Rattle.std.specs.Prelude.{is_some, not, ◌==◌, ◌&&◌, if◌then◌else◌}
 use Rattle.std.proofs.lemmas.Bool.{cases_eq, cases_Bool, cases_lt, ne_eqb, eq-eqb}
-use Rattle.std.proofs.lemmas.List.{length-set}
+use Rattle.std.proofs.lemmas.List.{get_or-set_other, get_or-set_same, length-set}
 use Rattle.cpu_table.specs.Data.{SetupData}
 use Rattle.cpu_table.specs.declared.setup.Mode.{Mode}
 use Rattle.cpu_table.specs.declared.setup.Mode.TheVariants.{Traditional, Relaxed}
@@ -13,7 +13,10 @@ use Rattle.exit_handshake.specs.Close as close
 use Rattle.exit_handshake.specs.Close.{ClosePosition, lacks, after_close}
 use Rattle.handler_ops.specs.declared.desk.Desk.{Desk}
 use Rattle.handler_ops.specs.Sessions.{Session as Chair}
+use Rattle.cpu_program.specs.declared.cargo.Cargo.{Cargo}
+use Rattle.cpu_program.specs.declared.cargo.Cargo.TheVariants as cargo
 use Rattle.cpu_program.specs.Actors.{OfProcessor}
+use Rattle.cpu_program.specs.Hands.{is_kind}
 use Rattle.cpu_program.specs.Processors.{is_relaxed, left_to}
 use Rattle.rendezvous_machine.specs.Machines.{Machine, member}
 use Rattle.rendezvous_machine.specs.Effects.{made_closed}
@@ -21,7 +24,9 @@ use Rattle.rendezvous_machine.specs.Rules.{MayClose}
 use Rattle.schedule_laws.proofs.Scenes.{Scene, Seat, Lead, LockingCounter, AwaitingReports, TakingDesk, BeginningToServe, LeavingInside, Leading as LeadingAt, seat, processor_at, actors_of, closing_at}
 use Rattle.schedule_laws.proofs.Stations.{Leading, bit, here_of, made, made_once, member_of, station_of}
 use Rattle.schedule_laws.proofs.Leads.{begins_at}
-use Rattle.schedule_laws.proofs.Invariant.{Context, View, IsCpu, IsCourse, IsReady, IsAim, IsLead, Holds, IsFine, KeptAt, desk_kept, mode_of, globe, view, team_in, raised_in, members_in}
+use Rattle.schedule_laws.proofs.Invariant.{Context, View, IsSelf, IsTeam, IsPeer, IsRunOf, IsTotals, IsCpu, IsCourse, IsReady, IsAim, IsLead, Holds, IsFine, KeptAt, desk_at, desk_kept, mode_of, globe, seat_view, view, team_in, raised_in, members_in}
+use Rattle.schedule_laws.proofs.ImageKinds.{is_same_kind}
+use Rattle.schedule_laws.proofs.Sums.{sum_below-same}
 use Rattle.schedule_laws.proofs.Frames.{mode_le, stays}
 use Rattle.schedule_laws.proofs.LeadFrames.{at_stage, IsHolding, Reached, lead_kept}
 use Rattle.schedule_laws.proofs.SessionFrames.{bsp_says, no_aim, rechaired, resting_job, begun_chair, begun_course, starting_course, is_beginning, plain, turns}
@@ -85,10 +90,10 @@ record IsKept (c : Context) (t : Seat) : Type 0 where
   chair : t.chair ≡ Some c.chair
 
 -- no desk is left to take: the traditional mode serves, the relaxed one has served
-desks_over : (d : SetupData) (c : Context) (s : Scene) (m : Machine) (t : Seat) (at : Lead) (b : Bool) → is_relaxed d.mode ≡ b → IsReady d (at_stage c 11 d.processors) s m
-    → seat s c.bsp ≡ t → station_of t.position ≡ Leading → IsKept c t
+desks_over : (d : SetupData) (c : Context) (s : Scene) (m : Machine) (t0 t : Seat) (at : Lead) (b : Bool) → is_relaxed d.mode ≡ b → IsReady d (at_stage c 11 d.processors) s m
+    → seat s c.bsp ≡ t0 → station_of t0.position ≡ Leading → seat_view Leading c.bsp t ≡ seat_view Leading c.bsp t0 → IsKept c t
     → IsFine d (record { words = s.words; lying = s.lying; actors = slice_set (actors_of d s) c.bsp (OfProcessor (left_to (close.left_of (after_close b)) (record (processor_at d c.bsp (LeadingAt at) t) { part = closing_at d c.bsp (after_close b) t.listed }))) }) m
-desks_over d c s m t at true is g e st k =
+desks_over d c s m t0 t at true is g e st sv k =
     let one : mode_of d ≡ 1 = ap bit is in
     let n : ℕ = d.processors in
     let late : (j : ℕ) → j < n → n ≤ j → (view s m j).present ≢ 1 = (λ j l y. absurd (omega arith)) in
@@ -101,9 +106,9 @@ desks_over d c s m t at true is g e st k =
     (λ j l q h r. desks_taken_relaxed_run c n j (get_or s.words.run j 0) (view s m j) (late j l) (idle j h) h.self.team_bit h.team (h.peer q) r) in
     let r : Reached d c s m LeavingInside =
     plain d c s m LeavingInside 14 0 ready (no_aim d c 14 0 (λ z. omega arith) (λ z. omega arith) (λ z. omega arith) (λ z. omega arith) (λ z. omega arith) (λ z. omega arith)) refl refl (λ z. absurd (omega arith)) refl (λ z. absurd (omega arith)) in
-    turns d c s s.words s.lying m t (record t { position = LeadingAt LeavingInside }) LeavingInside r e st refl refl
+    turns d c s s.words s.lying m t0 (record t { position = LeadingAt LeavingInside }) LeavingInside r e st refl sv
     (record { wave = k.wave; blocked = k.blocked; listed = k.listed; held = k.held; chair = k.chair })
-desks_over d c s m t at false is g e st k =
+desks_over d c s m t0 t at false is g e st sv k =
     let zero : mode_of d ≡ 0 = ap bit is in
     let n : ℕ = d.processors in
     let x : Chair = begun_chair c c.wave in
@@ -137,22 +142,22 @@ desks_over d c s m t at false is g e st k =
     } in
     let t' : Seat = record t { position = LeadingAt BeginningToServe; wave = c.wave; chair = Some x; held = c.held } in
     rw (chair, held, wave)
-    (turns d c1 s s.words s.lying m t t' BeginningToServe r e st refl (rw held refl)
+    (turns d c1 s s.words s.lying m t0 t' BeginningToServe r e st refl (ap (λ (y : List (Option Desk)). seat_view Leading c.bsp (record t { held = y })) (sym held) ∙ sv)
     (record { wave = refl; blocked = k.blocked; listed = k.listed; held = refl; chair = refl }))
 
 -- the next desk, or what comes after them
-desks_next : (d : SetupData) (c : Context) (s : Scene) (m : Machine) (t : Seat) (at : Lead) (from : ℕ) (o : Option ℕ) → Found (lacks (closing d c)) from d.processors o
-    → IsReady d (at_stage c 11 from) s m → from ≤ d.processors → ListsFrom d c from → seat s c.bsp ≡ t → station_of t.position ≡ Leading → IsKept c t
+desks_next : (d : SetupData) (c : Context) (s : Scene) (m : Machine) (t0 t : Seat) (at : Lead) (from : ℕ) (o : Option ℕ) → Found (lacks (closing d c)) from d.processors o
+    → IsReady d (at_stage c 11 from) s m → from ≤ d.processors → ListsFrom d c from → seat s c.bsp ≡ t0 → station_of t0.position ≡ Leading → seat_view Leading c.bsp t ≡ seat_view Leading c.bsp t0 → IsKept c t
     → IsFine d (record { words = s.words; lying = s.lying; actors = slice_set (actors_of d s) c.bsp (OfProcessor (left_to (close.left_of (row_or row.TakeDesk (after_close (is_relaxed d.mode)) o)) (record (processor_at d c.bsp (LeadingAt at) t) { part = closing_at d c.bsp (row_or row.TakeDesk (after_close (is_relaxed d.mode)) o) t.listed }))) }) m
-desks_next d c s m t at from None found g a lists e st k =
-    desks_over d c s m t at (is_relaxed d.mode) refl (desks_ready d c s m from d.processors g a lists found) e st k
-desks_next d c s m t at from (Some j) found g a lists e st k =
+desks_next d c s m t0 t at from None found g a lists e st sv k =
+    desks_over d c s m t0 t at (is_relaxed d.mode) refl (desks_ready d c s m from d.processors g a lists found) e st sv k
+desks_next d c s m t0 t at from (Some j) found g a lists e st sv k =
     let own = other_true j c.bsp (not (get_or c.listed j false)) found.2 in
     let free : is_some (get_or c.held j None) ≡ false = sym (lists j found.1 found.0) ∙ not_true (get_or c.listed j false) own.1 in
     let ready : IsReady d (at_stage c 11 j) s m = desks_ready d c s m from j g found.0 lists found.3 in
     let aim : IsAim d (at_stage c 11 j) = record { signals = λ z. absurd (omega arith); takes = λ _. (found.1, own.0, free); releases = λ z. absurd (omega arith); dismisses = λ z. absurd (omega arith); gives = λ z. absurd (omega arith); closes = λ _ z. absurd (omega arith); closes_on = λ _ i l y. lists i l (let u = found.0 in omega arith) } in
     let r : Reached d c s m (TakingDesk j) = plain d c s m (TakingDesk j) 11 j ready aim refl refl (λ z. absurd (omega arith)) refl (λ z. absurd (omega arith)) in
-    turns d c s s.words s.lying m t (record t { position = LeadingAt (TakingDesk j) }) (TakingDesk j) r e st refl refl
+    turns d c s s.words s.lying m t0 (record t { position = LeadingAt (TakingDesk j) }) (TakingDesk j) r e st refl sv
     (record { wave = k.wave; blocked = k.blocked; listed = k.listed; held = k.held; chair = k.chair })
 
 -- THE COUNTER IS LOCKED
@@ -190,8 +195,8 @@ lock_counter_at d c s m t q f e at =
     simp (eq-eqb left 0 z) (
       refl,
       (rule, count),
-      desks_next d c2 s' m' t LockingCounter 0 (next_below d.processors (lacks (record (closing d c2) { held = t.listed; row = row.LockCounter })) 0) (tested d c2 row.LockCounter t.listed 0 at.listed) ready (omega arith)
-          (λ j l _. f.aim.closes (omega arith) (omega arith) j l) e st keeps,
+      desks_next d c2 s' m' t t LockingCounter 0 (next_below d.processors (lacks (record (closing d c2) { held = t.listed; row = row.LockCounter })) 0) (tested d c2 row.LockCounter t.listed 0 at.listed) ready (omega arith)
+          (λ j l _. f.aim.closes (omega arith) (omega arith) j l) e st refl keeps,
     ))
     (λ (z : left ≢ 0).
     let ready : IsReady d (at_stage c2 10 left) s' m' = lock_ready d c 10 left s m g (inl (refl, refl, omega arith)) (omega arith) (omega arith) (inr refl) in
@@ -248,8 +253,8 @@ await_reports_at d c left s m t q f e at =
     simp (ne_eqb v 0 z, eq-eqb (left - 1) 0 y) (
       refl,
       tt,
-      desks_next d c s' m t (AwaitingReports left) 0 (next_below d.processors (lacks (record (closing d c) { held = t.listed; row = row.AwaitReports left })) 0) (tested d c (row.AwaitReports left) t.listed 0 at.listed) ready (omega arith)
-          (λ j l _. f.aim.closes (omega arith) (omega arith) j l) e st keeps,
+      desks_next d c s' m t t (AwaitingReports left) 0 (next_below d.processors (lacks (record (closing d c) { held = t.listed; row = row.AwaitReports left })) 0) (tested d c (row.AwaitReports left) t.listed 0 at.listed) ready (omega arith)
+          (λ j l _. f.aim.closes (omega arith) (omega arith) j l) e st refl keeps,
     ))
     (λ (y : left - 1 ≢ 0).
     let ready : IsReady d (at_stage c 10 (left - 1)) s' m =
@@ -272,3 +277,153 @@ await_reports_at d c left s m t q f e at =
 pub await_reports : (d : SetupData) (c : Context) (i : ℕ) (s : Scene) (m : Machine) (t : Seat) (left : ℕ) → Holds d c s m → i < d.processors → seat s i ≡ t
     → t.position ≡ LeadingAt (AwaitingReports left) → KeptAt d s m i t (LeadingAt (AwaitingReports left))
 await_reports d c i s m t left f l e q = lead_kept d c i s m t (AwaitingReports left) f l e q (λ k e' at. await_reports_at d c left s m t q k e' at)
+
+-- IT TAKES A DESK
+
+-- the context with this desk held
+abbrev with_desk : Context → ℕ → Desk → Context
+with_desk c j desk = record c { held = slice_set c.held j (Some desk) }
+
+taken_self : (d : SetupData) (waves : ℕ) (at : Option Desk) (v : View) → v.present ≡ 1 → v.released ≡ 0 → v.work ≡ 0 → IsSelf d waves at v
+    → IsSelf d waves (Some (desk_at v.image None)) (record v { present = 2; on_present = None })
+taken_self d waves at v p r w h =
+    record { phase = h.phase; visits = h.visits; registers = h.registers; last = h.last; kind = h.kind; most = h.most; waiting = h.waiting; through = h.through; inside = h.inside; begun = h.begun; team_bit = h.team_bit; released_bit = h.released_bit; departed_bit = h.departed_bit; work_le = h.work_le; present_le = omega arith; absent = λ z. absurd (let y = h.absent z in omega arith); there = λ _. omega arith; worker = λ _. refl; idle_away = h.idle_away; running = h.running; own = h.own; own_job = h.own_job; own_out = h.own_out; on_present = λ z. absurd (omega arith); off_present = λ _. refl; on_run = h.on_run; on_run_job = h.on_run_job; off_run = h.off_run; off_run_own = h.off_run_own; held = λ _ _ _. refl; not_held = λ z. absurd (z refl); given_back = λ z. absurd (omega arith); lent = λ z. absurd (omega arith) }
+
+taken_team : (c c2 : Context) (x i present : ℕ) (o : Option Cargo) (v : View) → (i < x + 1 → present ≢ 1) → IsTeam (at_stage c 11 x) i v
+    → IsTeam (at_stage c2 11 (x + 1)) i (record v { present = present; on_present = o })
+taken_team c c2 x i present o v p h =
+    record { team_open = λ z. absurd (omega arith); departed_open = λ z. absurd (omega arith); team = λ _. h.team (omega arith); unreleased = λ _. h.unreleased (omega arith); idle_early = λ z. absurd (omega arith); idle_mid = λ _ _. h.idle_mid (omega arith) (omega arith); idle_after = λ z. absurd (omega arith); unclaimed = λ z. absurd (omega arith); claimed_so_far = λ _ y. p y; claimed = λ z. absurd (omega arith) }
+
+taken_peer : (c : Context) (held : List (Option Desk)) (x i present : ℕ) (o : Option Cargo) (v : View) → IsPeer (at_stage c 11 x) i v
+    → IsPeer (at_stage (record c { held = held }) 11 (x + 1)) i (record v { present = present; on_present = o })
+taken_peer c held x i present o v h =
+    record { station = h.station; walking = λ _. omega arith; knows = h.knows; gone = h.gone; listed = λ z. absurd (omega arith); released_so_far = λ z. absurd (omega arith); released_no_more = λ z. absurd (omega arith); released = λ z. absurd (omega arith); told = λ _. h.told (omega arith); answered = λ z. absurd (omega arith); ended = λ z. absurd (omega arith) }
+
+taken_run : (c c2 : Context) (x i present r : ℕ) (o : Option Cargo) (v : View) → IsRunOf (at_stage c 11 x) i v r
+    → IsRunOf (at_stage c2 11 (x + 1)) i (record v { present = present; on_present = o }) r
+taken_run c c2 x i present r o v h =
+    record { upto = λ _ y. h.upto (omega arith) y; lent = h.lent; so_far = λ z. absurd (omega arith); no_more = λ z. absurd (omega arith); late = λ z. absurd (omega arith) }
+
+taken_totals : (c : Context) (held : List (Option Desk)) (x counter run a b e a' b' e' : ℕ) → b' ≡ b → e' ≡ e → IsTotals (at_stage c 11 x) counter run a b e
+    → IsTotals (at_stage (record c { held = held }) 11 (x + 1)) counter run a' b' e'
+taken_totals c held x counter run a b e a' b' e' eb ee h =
+    let l = h.counter_locked (omega arith) in
+    let p = h.peers (omega arith) in
+    let r = h.run_reported (omega arith) (omega arith) in
+    record { counted = λ z. absurd (omega arith); counter_locked = λ _. l; peers = λ _. omega arith; run_open = λ q z. absurd (omega arith); run_reports = λ z. absurd (omega arith); run_reported = λ _ _. omega arith; run_answers = λ z. absurd (omega arith); run_answered = λ z. absurd (omega arith); run_ends = λ z. absurd (omega arith); run_ended = λ z. absurd (omega arith) }
+
+abbrev taking_scene : Scene → ℕ → Scene
+taking_scene s j = record s { words = record s.words { present = slice_set s.words.present j 2 }; lying = record s.lying { present = slice_set s.lying.present j None } }
+
+taken_ready : (d : SetupData) (c : Context) (j : ℕ) (s : Scene) (m : Machine) → IsReady d (at_stage c 11 j) s m → j < d.processors → j ≢ c.bsp
+    → get_or s.words.present j 0 ≡ 1 → IsReady d (at_stage (with_desk c j (desk_at (member m j).image None)) 11 (j + 1)) (taking_scene s j) m
+taken_ready d c j s m g l nb one =
+    let n : ℕ = d.processors in
+    let desk : Desk = desk_at (member m j).image None in
+    let c1 : Context = with_desk c j desk in
+    let c2 : Context = at_stage c1 11 (j + 1) in
+    let s2 : Scene = taking_scene s j in
+    let V : ℕ → View = view s m in
+    let V' : ℕ → View = view s2 m in
+    let z = g.sized in
+    let w = g.words in
+    let x = g.session in
+    let k = g.course in
+    let mode = mode_le d in
+    let lp : j < length s.words.present = rw z.present l in
+    let lo : j < length s.lying.present = rw z.on_present l in
+    let lh : j < length c.held = rw (z.held (omega arith)) l in
+    let new : V' j ≡ record (V j) { present = 2; on_present = None } = rw (get_or-set_same s.words.present j 2 0 lp, get_or-set_same s.lying.present j None None lo) refl in
+    let other : (i : ℕ) → i ≢ j → V' i ≡ V i = (λ i q. rw (get_or-set_other s.words.present j i 2 0 q, get_or-set_other s.lying.present j i None None q) refl) in
+    let same : (f : View → ℕ) → f (record (V j) { present = 2; on_present = None }) ≡ f (V j) → (i : ℕ) → f (V' i) ≡ f (V i) =
+    (λ f e i. ⊎_elim (λ (q : i ≡ j). subst (λ (y : ℕ). f (V' y) ≡ f (V y)) (sym q) (ap f new ∙ e)) (λ (q : i ≢ j). ap f (other i q)) (cases_eq i j)) in
+    let h = g.each j l in
+    let un = h.team.unreleased (omega arith) in
+    let idle = h.team.idle_mid (omega arith) (omega arith) in
+    record {
+      platform = g.platform;
+      sized = record { seats = z.seats; pend = z.pend; present = length-set s.words.present j 2 ∙ z.present; run = z.run; busy = z.busy; on_present = length-set s.lying.present j None ∙ z.on_present; on_run = z.on_run; on_busy = z.on_busy; members = z.members; held = λ _. length-set c.held j (Some desk) ∙ z.held (omega arith) };
+      words = record { some_bsp = w.some_bsp; no_bsp = w.no_bsp; bsp_before = w.bsp_before; bsp_taken = w.bsp_taken; bsp_free = w.bsp_free; leads = w.leads; inside_before = w.inside_before; inside = w.inside; inside_after = w.inside_after; insync_before = w.insync_before; insync = w.insync; insync_after = w.insync_after; chair_before = w.chair_before; chair = w.chair; chair_after = w.chair_after; source = w.source; except = w.except; no_session = w.no_session; session = w.session };
+      session = record { bsp = x.bsp; unserved = x.unserved; served = x.served; ungathered = x.ungathered; gathered = x.gathered; unready = x.unready; fresh = x.fresh; expired = x.expired; waited = x.waited; unclosed = x.unclosed; closed = x.closed; unbegun = x.unbegun; undone = x.undone; done = x.done };
+      course = record { setup = k.setup; size = k.size; registered = k.registered; pooled = k.pooled; me = k.me; led = k.led; listed = k.listed; over = k.over };
+      chipset = g.chipset;
+      totals =
+          taken_totals c (slice_set c.held j (Some desk)) j s.words.counter (get_or s.words.run c.bsp 0) (members_in n V) (team_in n V) (raised_in n V) (members_in n V') (team_in n V') (raised_in n V')
+          (sum_below-same n (λ i. (V' i).team) (λ i. (V i).team) (λ i _. same (λ v. v.team) refl i))
+          (sum_below-same n (λ i. made (V' i).departed (V' i).station) (λ i. made (V i).departed (V i).station) (λ i _. same (λ v. made v.departed v.station) refl i))
+          g.totals;
+      each = λ i t.
+          ⊎_elim
+          (λ (q : i ≡ j). subst (λ (y : ℕ). IsCpu d c2 m.waves y (V' y)) (sym q) (subst (λ (v : View). IsCpu d c2 m.waves j v) (sym new)
+          (record {
+            self = subst (λ (o : Option Desk). IsSelf d m.waves o (record (V j) { present = 2; on_present = None })) (sym (rw (ne_eqb j c.bsp nb) (get_or-set_same c.held j (Some desk) None lh))) (taken_self d m.waves (desk_kept (at_stage c 11 j) j) (V j) one un idle h.self);
+            team = taken_team c c1 j j 2 None (V j) (λ _ y. omega arith) h.team;
+            leader = λ y. absurd (nb y);
+            peer = λ y. taken_peer c (slice_set c.held j (Some desk)) j j 2 None (V j) (h.peer y);
+          })))
+          (λ (q : i ≢ j). subst (λ (v : View). IsCpu d c2 m.waves i v) (sym (other i q))
+          (let y = g.each i t in
+          record {
+            self = subst (λ (o : Option Desk). IsSelf d m.waves o (V i)) (sym (ap (λ (o : Option Desk). if i == c.bsp then None else o) (get_or-set_other c.held j i (Some desk) None q))) y.self;
+            team = taken_team c c1 j i (V i).present (V i).on_present (V i) (λ u. y.team.claimed_so_far refl (omega arith)) y.team;
+            leader = λ u. let b = y.leader u in record { station = b.station; released = b.released; departed = b.departed; work = b.work };
+            peer = λ u. taken_peer c (slice_set c.held j (Some desk)) j i (V i).present (V i).on_present (V i) (y.peer u);
+          }))
+          (cases_eq i j);
+      runs = λ i t q.
+          ⊎_elim
+          (λ (e : i ≡ j). subst (λ (y : ℕ). IsRunOf c2 y (V' y) (get_or s.words.run y 0)) (sym e) (subst (λ (v : View). IsRunOf c2 j v (get_or s.words.run j 0)) (sym new) (taken_run c c1 j j 2 (get_or s.words.run j 0) None (V j) (g.runs j l nb))))
+          (λ (e : i ≢ j). subst (λ (v : View). IsRunOf c2 i v (get_or s.words.run i 0)) (sym (other i e)) (taken_run c c1 j i (V i).present (get_or s.words.run i 0) (V i).on_present (V i) (g.runs i t q)))
+          (cases_eq i j);
+      jobs = λ i t q. resting_job d (at_stage c 11 j) c2 i (member m i).job (λ y. omega arith) (g.jobs i t q);
+      idle = λ i t q. let y = g.idle i t q in record { size = y.size; held = y.held; chair = y.chair };
+      signals = g.signals;
+      busies = g.busies;
+    }
+
+take_desk_at : (d : SetupData) (c : Context) (j : ℕ) (s : Scene) (m : Machine) (t : Seat) → t.position ≡ LeadingAt (TakingDesk j) → Holds d (at_stage c 11 j) s m
+    → seat s c.bsp ≡ t → IsLead d (at_stage c 11 j) m.registrations m.pool (TakingDesk j) t → KeptAt d s m c.bsp t (LeadingAt (TakingDesk j))
+take_desk_at d c j s m t q f e at =
+    let g = f.ready in
+    let n : ℕ = d.processors in
+    let v : ℕ = get_or s.words.present j 0 in
+    let st = ap station_of q in
+    let aim = f.aim.takes refl in
+    let h = g.each j aim.0 in
+    let mode = mode_le d in
+    let lists = f.aim.closes_on refl in
+    ⊎_elim
+    (λ (z : v ≡ 1).
+    let desk : Desk = desk_at (member m j).image None in
+    let lies : get_or s.lying.present j None ≡ Some (cargo.Desk desk) = h.self.on_present z in
+    let kind : is_kind (member m j).image.kind d.kind ≡ true = is_same_kind (member m j).image.kind d.kind h.self.kind in
+    let c1 : Context = with_desk c j desk in
+    let t1 : Seat = record t { held = slice_set t.held j (Some desk) } in
+    let keeps : IsKept c1 t1 = record { wave = at.wave; blocked = at.blocked; listed = at.listed; held = ap (λ (y : List (Option Desk)). slice_set y j (Some desk)) at.held; chair = at.chair (omega arith) } in
+    let own : seat_view Leading c.bsp t1 ≡ seat_view Leading c.bsp t = ap (λ (o : Option Desk). record { station = Leading; knows = t.bsp; visits = t.visits; own = o; registers = t.registers; last = t.last }) (get_or-set_other t.held j c.bsp (Some desk) None (λ y. aim.1 (sym y))) in
+    let more : ListsFrom d c1 (j + 1) = (λ i l y. lists i l (omega arith) ∙ ap is_some (sym (get_or-set_other c.held j i (Some desk) None (λ u. omega arith)))) in
+    simp (eq-eqb v 1 z, lies, kind) (
+      refl,
+      tt,
+      desks_next d c1 (taking_scene s j) m t t1 (TakingDesk j) (j + 1) (next_below n (lacks (record (closing d c1) { held = t.listed; row = row.TakeDesk j })) (j + 1)) (tested d c1 (row.TakeDesk j) t.listed (j + 1) at.listed) (taken_ready d c j s m g aim.0 aim.1 z) (let u = aim.0 in omega arith) more e st own keeps,
+    ))
+    (λ (z : v ≢ 1).
+    let keeps : IsKept c t = record { wave = at.wave; blocked = at.blocked; listed = at.listed; held = at.held; chair = at.chair (omega arith) } in
+    let not_there : (i : ℕ) → j ≤ i → i < j + 1 → (view s m i).present ≢ 1 = (λ i a b. let y : i ≡ j = omega arith in subst (λ (k : ℕ). (view s m k).present ≢ 1) (sym y) z) in
+    let ready : IsReady d (at_stage c 11 (j + 1)) s m =
+    advance d c 11 j 11 (j + 1) s m g (omega arith) (omega arith) (λ u. omega arith) (λ u. absurd (omega arith)) (words_at d c 11 j 11 (j + 1) (globe s m) (omega arith) (omega arith) (omega arith) (λ u. absurd (omega arith)) g.words)
+    (course_at d c 11 j 11 (j + 1) m.registrations m.pool (omega arith) (λ u. u) (λ u. u) (λ u. omega arith) g.course)
+    (desks_skipped_totals c j (j + 1) s.words.counter (get_or s.words.run c.bsp 0) _ _ _)
+    (λ i l y. desks_skipped d c m.waves j (j + 1) i (view s m i) (omega arith) (not_there i) y)
+    (λ i l x y r. desks_skipped_run c j (j + 1) i (get_or s.words.run i 0) (view s m i) (omega arith) (not_there i) y.self.team_bit y.team (y.peer x) r) in
+    simp (ne_eqb v 1 z) (
+      refl,
+      tt,
+      desks_next d c s m t t (TakingDesk j) (j + 1) (next_below n (lacks (record (closing d c) { held = t.listed; row = row.TakeDesk j })) (j + 1)) (tested d c (row.TakeDesk j) t.listed (j + 1) at.listed) ready (let u = aim.0 in omega arith)
+          (λ i l y. lists i l (omega arith)) e st refl keeps,
+    ))
+    (cases_eq v 1)
+
+pub take_desk : (d : SetupData) (c : Context) (i : ℕ) (s : Scene) (m : Machine) (t : Seat) (j : ℕ) → Holds d c s m → i < d.processors → seat s i ≡ t
+    → t.position ≡ LeadingAt (TakingDesk j) → KeptAt d s m i t (LeadingAt (TakingDesk j))
+take_desk d c i s m t j f l e q = lead_kept d c i s m t (TakingDesk j) f l e q (λ k e' at. take_desk_at d c j s m t q k e' at)

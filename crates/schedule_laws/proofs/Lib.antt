@@ -25,7 +25,6 @@ pub mod Loops
 pub mod Counts
 pub mod GatherLooks
 pub mod Closes
-pub mod Turns
 pub mod ClosedFrames
 pub mod ExitWays
 pub mod Served
@@ -33,3 +32,4 @@ pub mod Exits
 pub mod Releases
 pub mod Locks
 pub mod Desks
+pub mod Turns

@@ -13,6 +13,7 @@ use Rattle.schedule_laws.proofs.Elections.{claim_chair, ask_for_chair}
 use Rattle.schedule_laws.proofs.Gatherings.{mark_inside, take_source, look_at_except}
 use Rattle.schedule_laws.proofs.GatherLooks.{gather_first, find_missing, signal_missing, gather_second}
 use Rattle.schedule_laws.proofs.Closes.{mark_insync}
+use Rattle.schedule_laws.proofs.Desks.{lock_counter, await_reports, take_desk}
 use Rattle.schedule_laws.proofs.Schedules.{AllTurnsKept}
 
 -- a turn of the BSP at this position keeps what holds
@@ -22,9 +23,6 @@ LeadKept d lead =
 
 -- the turns that are still to be proved
 pub record OwedTurns (d : SetupData) : Type 0 where
-  pub lock_counter : LeadKept d LockingCounter
-  pub await_reports : (left : ℕ) → LeadKept d (AwaitingReports left)
-  pub take_desk : (j : ℕ) → LeadKept d (TakingDesk j)
   pub begin_to_serve : LeadKept d BeginningToServe
   pub at_handlers : LeadKept d AtHandlers
   pub collect : (j : ℕ) → LeadKept d (Collecting j)
@@ -47,9 +45,9 @@ module _ (d : SetupData) (owed : OwedTurns d) where
   lead_kept (SignallingMissing j) c i s m t f l e q = signal_missing d c i s m t j f l e q
   lead_kept (GatheringSecond looks) c i s m t f l e q = gather_second d c i s m t looks f l e q
   lead_kept MarkingInsync c i s m t f l e q = mark_insync d c i s m t f l e q
-  lead_kept LockingCounter c i s m t f l e q = owed.lock_counter c i s m t f l e q
-  lead_kept (AwaitingReports left) c i s m t f l e q = owed.await_reports left c i s m t f l e q
-  lead_kept (TakingDesk j) c i s m t f l e q = owed.take_desk j c i s m t f l e q
+  lead_kept LockingCounter c i s m t f l e q = lock_counter d c i s m t f l e q
+  lead_kept (AwaitingReports left) c i s m t f l e q = await_reports d c i s m t left f l e q
+  lead_kept (TakingDesk j) c i s m t f l e q = take_desk d c i s m t j f l e q
   lead_kept BeginningToServe c i s m t f l e q = owed.begin_to_serve c i s m t f l e q
   lead_kept AtHandlers c i s m t f l e q = owed.at_handlers c i s m t f l e q
   lead_kept (Collecting j) c i s m t f l e q = owed.collect j c i s m t f l e q
