@@ -1,6 +1,5 @@
 -- Where a BSP may go on to as it lets the others go.
-use Rattle.std.proofs.Common.{ℕ, zero, suc, ◌+◌, ◌-◌, ◌*◌, ◌≡◌, ◌≢◌, ◌<◌, ◌≤◌, arith, Bool, true, false, List, length, get_or, slice_set, Option, Some, None, refl, sym, ap, subst, ⊎_elim, ◌∙◌}
-use Rattle.std.specs.Prelude.{◌==◌, ◌&&◌, not, if◌then◌else◌}
+use Rattle.std.proofs.Common.{ℕ, ◌+◌, ◌-◌, ◌≡◌, ◌≢◌, ◌<◌, ◌≤◌, arith, Bool, false, List, length, get_or, slice_set, Option, Some, None, refl, sym, ap, subst, ⊎_elim, ◌∙◌}
 use Rattle.std.proofs.lemmas.Bool.{cases_eq, ne_eqb, eq-eqb}
 use Rattle.smm_base.specs.declared.kinds.Policy.{Policy}
 use Rattle.smm_base.specs.declared.kinds.Policy.TheVariants.{Elected, Fixed}
@@ -9,17 +8,16 @@ use Rattle.sync_words.specs.declared.row.Row.{Row}
 use Rattle.sync_words.specs.declared.row.Row.TheVariants as row
 use Rattle.sync_words.specs.Steps.{next_below, row_or}
 use Rattle.exit_handshake.specs.Exit.{ExitPosition, exit_at, is_ap, ap_count, after_rounds, to_dismissed, to_dismissals, to_released, to_releases, left_of}
-use Rattle.handler_ops.specs.declared.desk.Desk.{Desk}
 use Rattle.cpu_program.specs.Actors.{Processor, OfProcessor}
 use Rattle.cpu_program.specs.Processors.{is_elected, is_relaxed, left_to}
-use Rattle.rendezvous_core.specs.Worlds.{World, Words, Lying, bsp_at_first}
+use Rattle.rendezvous_core.specs.Worlds.{bsp_at_first}
 use Rattle.rendezvous_machine.specs.Machines.{Machine}
 use Rattle.rendezvous_machine.specs.Platforms.{MayLead}
 use Rattle.schedule_laws.proofs.Scenes.{Scene, Seat, Lead, LeavingInside, Releasing, AwaitingReleased, Dismissing, AwaitingDismissed, GivingChair, LeavingInsync, Position, Leading as LeadingAt, seat, processor_at, processor_of, actors_of, exiting_at}
 use Rattle.schedule_laws.proofs.Stations.{Leading, station_of, bit}
 use Rattle.schedule_laws.proofs.Leads.{stage_some}
 use Rattle.schedule_laws.proofs.Sums.{sum_below, sum_below-change}
-use Rattle.schedule_laws.proofs.Invariant.{Context, View, Globe, IsWords, IsReady, IsAim, IsFine, chair_home, chair_lying, held_at, globe, seat_view, view, team_in}
+use Rattle.schedule_laws.proofs.Invariant.{Context, Globe, IsWords, IsReady, IsFine, chair_lying, held_at, globe, seat_view, view}
 use Rattle.schedule_laws.proofs.Frames.{seated}
 use Rattle.schedule_laws.proofs.LeadFrames.{at_stage, Reached, IsHolding, reaches}
 use Rattle.schedule_laws.proofs.SessionFrames.{no_aim}

@@ -1,33 +1,27 @@
 -- The steps of a BSP that lets the others go: it says that serving is done, releases each and waits for their answers, dismisses each and
 -- waits until they have left, and gives the chair back.
-use Rattle.std.proofs.Common.{ℕ, zero, suc, ◌+◌, ◌-◌, ◌*◌, ◌≡◌, ◌≢◌, ◌<◌, ◌≤◌, arith, Bool, true, false, List, [], ◌∷◌, length, get_or, slice_set, Option, Some, None, refl, sym, ap, subst, ⊎_elim, ◌∙◌}
-use Rattle.std.specs.Prelude.{◌==◌, if◌then◌else◌, is_some, map, option_map}
+use Rattle.std.proofs.Common.{ℕ, zero, suc, ◌+◌, ◌-◌, ◌*◌, ◌≡◌, ◌≢◌, ◌<◌, ◌≤◌, arith, Bool, true, false, List, [], ◌∷◌, get_or, slice_set, Option, Some, None, refl, ap, ⊎_elim, ◌∙◌}
+use Rattle.std.specs.Prelude.{is_some, map, option_map}
 use Rattle.std.specs.List.{range_with_len}
 use Rattle.std.proofs.lemmas.Bool.{cases_eq, ne_eqb, eq-eqb}
-use Rattle.std.proofs.lemmas.List.{get_or-set_other, get_or-set_same, length-set, get_or-map}
 use Rattle.std.proofs.lemmas.List.FromFn.{get_or-map-range_with_len}
-use Rattle.smm_base.specs.declared.kinds.Policy.{Policy}
-use Rattle.smm_base.specs.declared.kinds.Policy.TheVariants.{Elected}
 use Rattle.cpu_table.specs.Data.{SetupData}
 use Rattle.sync_words.specs.declared.row.Row.TheVariants as row
 use Rattle.exit_handshake.specs.Exit.{to_released, to_dismissed, to_dismissals, to_releases}
 use Rattle.handler_ops.specs.declared.desk.Desk.{Desk}
 use Rattle.handler_ops.specs.Course.{is_held}
-use Rattle.cpu_program.specs.declared.cargo.Cargo.{Cargo}
-use Rattle.cpu_program.specs.declared.cargo.Cargo.TheVariants as cargo
 use Rattle.cpu_program.specs.Processors.{desks_held}
-use Rattle.rendezvous_core.specs.Worlds.{World, Words, Lying, bsp_at_first}
-use Rattle.rendezvous_machine.specs.Machines.{Machine, Session, Member, member, HasWaited, IsBsp}
+use Rattle.rendezvous_machine.specs.Machines.{Machine, Session, member}
 use Rattle.rendezvous_machine.specs.Listed.{IsServed}
 use Rattle.rendezvous_machine.specs.Effects.{with_session, made_done}
-use Rattle.schedule_laws.proofs.Scenes.{Scene, Seat, Lead, LeavingInside, Releasing, AwaitingReleased, Dismissing, AwaitingDismissed, GivingChair, LeavingInsync, UnlockingCounter, Position, Leading as LeadingAt, seat}
-use Rattle.schedule_laws.proofs.Stations.{Leading, station_of, bit, member_of, made, made_twice, made_thrice, low}
-use Rattle.schedule_laws.proofs.Invariant.{Context, View, Globe, IsCpu, IsTeam, IsPeer, IsRunOf, IsTotals, IsWords, IsSession, IsCourse, IsReady, IsLead, Holds, KeptAt, chair_home, chair_lying, locked, globe, mode_of, serves_from, seat_view, view, members_in, team_in, raised_in}
-use Rattle.schedule_laws.proofs.Frames.{stays, seated, mode_le}
-use Rattle.schedule_laws.proofs.LeadFrames.{at_stage, IsHolding, takes_seat, lead_kept}
+use Rattle.schedule_laws.proofs.Scenes.{Scene, Seat, Lead, LeavingInside, AwaitingReleased, AwaitingDismissed, Leading as LeadingAt, seat}
+use Rattle.schedule_laws.proofs.Stations.{station_of, bit, made, made_twice, made_thrice, low}
+use Rattle.schedule_laws.proofs.Invariant.{Context, View, Globe, IsTeam, IsPeer, IsRunOf, IsTotals, IsWords, IsSession, IsReady, IsLead, Holds, KeptAt, globe, mode_of, view, members_in, team_in, raised_in}
+use Rattle.schedule_laws.proofs.Frames.{stays, mode_le}
+use Rattle.schedule_laws.proofs.LeadFrames.{at_stage, IsHolding, lead_kept}
 use Rattle.schedule_laws.proofs.SessionFrames.{bsp_says, session_map, reframe, resting_job, idle_same, no_aim}
-use Rattle.schedule_laws.proofs.ClosedFrames.{words_at, session_at, course_late, further, lowered, round_over, all_reported, all_collected, listed_is}
-use Rattle.schedule_laws.proofs.ClosedStages.{answer_came, answer_came_run, answer_came_totals, answers_came, answers_came_run, answers_came_totals, departure_came, departure_came_run, departure_came_totals, departures_came, departures_came_run, departures_came_totals, chair_given, chair_given_run, chair_given_totals, insync_left, insync_left_run, insync_left_totals}
+use Rattle.schedule_laws.proofs.ClosedFrames.{words_at, course_late, lowered, round_over, all_reported, all_collected, listed_is}
+use Rattle.schedule_laws.proofs.ClosedStages.{answer_came, answer_came_run, answer_came_totals, answers_came, answers_came_run, answers_came_totals, departure_came, departure_came_run, departure_came_totals, departures_came, departures_came_run, departures_came_totals}
 use Rattle.schedule_laws.proofs.Served.{is_served}
 use Rattle.schedule_laws.proofs.Loops.{if_zero, if_some}
 use Rattle.schedule_laws.proofs.ExitWays.{Entered, ToAwaitReleased, ToAwaitDismissed, place_at, exits_to, exits_first, give_at, enter_dismissals, enter_releases}

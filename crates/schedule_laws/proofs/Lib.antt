@@ -30,6 +30,7 @@ pub mod ExitWays
 pub mod Served
 pub mod Exits
 pub mod Releases
+pub mod Endings
 pub mod Locks
 pub mod Desks
 pub mod Turns

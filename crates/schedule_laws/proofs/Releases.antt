@@ -1,6 +1,6 @@
 -- The steps of a BSP that releases an AP, with its desk, or dismisses one.
-use Rattle.std.proofs.Common.{ℕ, zero, suc, ◌+◌, ◌-◌, ◌*◌, ◌≡◌, ◌≢◌, ◌<◌, ◌≤◌, arith, Bool, true, false, List, length, get_or, slice_set, Option, Some, None, refl, sym, ap, subst, ⊎_elim, ◌∙◌}
-use Rattle.std.proofs.lemmas.Bool.{cases_eq, ne_eqb, eq-eqb}
+use Rattle.std.proofs.Common.{ℕ, ◌+◌, ◌-◌, ◌≡◌, ◌≢◌, ◌<◌, ◌≤◌, arith, true, false, List, length, get_or, slice_set, Option, Some, None, refl, sym, ap, subst, ⊎_elim, ◌∙◌}
+use Rattle.std.proofs.lemmas.Bool.{cases_eq, ne_eqb}
 use Rattle.std.proofs.lemmas.List.{get_or-set_other, get_or-set_same, length-set}
 use Rattle.cpu_table.specs.Data.{SetupData}
 use Rattle.sync_words.specs.declared.row.Row.TheVariants as row
@@ -10,10 +10,10 @@ use Rattle.cpu_program.specs.declared.cargo.Cargo.{Cargo}
 use Rattle.cpu_program.specs.declared.cargo.Cargo.TheVariants as cargo
 use Rattle.rendezvous_machine.specs.Machines.{Machine, Member, member, nobody}
 use Rattle.rendezvous_machine.specs.Effects.{with_member}
-use Rattle.schedule_laws.proofs.Scenes.{Scene, Seat, LeavingInside, Releasing, Dismissing, Position, Leading as LeadingAt, seat}
-use Rattle.schedule_laws.proofs.Stations.{Leading, station_of, bit, member_of, out_of, made, low}
+use Rattle.schedule_laws.proofs.Scenes.{Scene, Seat, Releasing, Dismissing, Leading as LeadingAt, seat}
+use Rattle.schedule_laws.proofs.Stations.{Leading, station_of, bit, member_of, out_of, made}
 use Rattle.schedule_laws.proofs.Sums.{sum_below-same}
-use Rattle.schedule_laws.proofs.Invariant.{Context, View, IsSelf, IsCpu, IsTeam, IsPeer, IsRunOf, IsTotals, IsReady, IsLead, Holds, KeptAt, desk_at, desk_kept, locked, globe, mode_of, serves_from, seat_view, view, members_in, team_in, raised_in}
+use Rattle.schedule_laws.proofs.Invariant.{Context, View, IsSelf, IsCpu, IsTeam, IsPeer, IsRunOf, IsTotals, IsReady, IsLead, Holds, KeptAt, desk_at, desk_kept, locked, globe, mode_of, seat_view, view, members_in, team_in, raised_in}
 use Rattle.schedule_laws.proofs.Frames.{mode_le, bit_true, bit_false, signals_more, busies_more, jobs_more}
 use Rattle.schedule_laws.proofs.LeadFrames.{at_stage, lead_kept}
 use Rattle.schedule_laws.proofs.SessionFrames.{bsp_says, resting_job, idle_same}
