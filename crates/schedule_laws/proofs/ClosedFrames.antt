@@ -1,21 +1,20 @@
 -- What a further stage of a closed session leaves as it is, and the waits of its BSP.
-use Rattle.std.proofs.Common.{ℕ, zero, suc, ◌+◌, ◌-◌, ◌*◌, ◌≡◌, ◌≢◌, ◌<◌, ◌≤◌, arith, Bool, true, false, List, length, get_or, slice_set, Option, Some, None, refl, sym, ap, subst, ⊎_elim, ◌∙◌}
-use Rattle.std.specs.Prelude.{IsSomeAnd, is_some}
-use Rattle.std.proofs.lemmas.Bool.{cases_eq, cases_lt, ne_eqb}
+use Rattle.std.proofs.Common.{ℕ, zero, ◌+◌, ◌-◌, ◌*◌, ◌≡◌, ◌≢◌, ◌<◌, ◌≤◌, arith, List, length, get_or, slice_set, Option, Some, None, refl, sym, ap, subst, ⊎_elim, ◌∙◌}
+use Rattle.std.specs.Prelude.{is_some}
+use Rattle.std.proofs.lemmas.Bool.{cases_eq, ne_eqb}
 use Rattle.std.proofs.lemmas.List.{get_or-set_other, get_or-set_same, length-set}
 use Rattle.cpu_table.specs.Data.{SetupData}
 use Rattle.handler_registry.specs.Registrations.{Registrations}
 use Rattle.smram_pool.specs.State.{PoolState}
 use Rattle.handler_ops.specs.declared.desk.Desk.{Desk}
-use Rattle.handler_ops.specs.declared.desk.Job.{Job}
 use Rattle.rendezvous_machine.specs.declared.phase.Phase.TheVariants.{Here}
 use Rattle.rendezvous_machine.specs.Machines.{Machine, member, is_counted_phase, AllReported, AllCollected}
 use Rattle.schedule_laws.proofs.Scenes.{Scene, seat}
 use Rattle.schedule_laws.proofs.Stations as station
-use Rattle.schedule_laws.proofs.Stations.{Station, bit, work_of, member_of, member_is, here_of, here_of-le, out_of, phase_of, made, low, is_reported}
-use Rattle.schedule_laws.proofs.Sums.{sum_below, sum_below-one_gap, sum_below-two_gaps, sum_below-zero}
-use Rattle.schedule_laws.proofs.Invariant.{Context, View, IsSelf, IsTeam, IsPeer, IsCpu, IsTotals, IsWords, IsSession, IsCourse, IsJobOf, IsSized, IsReady, IsRunOf, Globe, begins_from, serves_from, mode_of, globe, sizes, desk_kept, desk_at, view, members_in, team_in, raised_in}
-use Rattle.schedule_laws.proofs.Frames.{mode_le, bit-le}
+use Rattle.schedule_laws.proofs.Stations.{Station, bit, member_of, member_is, here_of, out_of, phase_of, made, is_reported}
+use Rattle.schedule_laws.proofs.Sums.{sum_below, sum_below-two_gaps, sum_below-zero}
+use Rattle.schedule_laws.proofs.Invariant.{Context, View, IsTeam, IsPeer, IsCpu, IsTotals, IsWords, IsSession, IsCourse, IsSized, IsReady, IsRunOf, Globe, begins_from, serves_from, mode_of, globe, sizes, desk_kept, desk_at, view, members_in, team_in, raised_in}
+use Rattle.schedule_laws.proofs.Frames.{mode_le}
 use Rattle.schedule_laws.proofs.LeadFrames.{at_stage, all_made}
 use Rattle.schedule_laws.proofs.SessionFrames.{reframe, resting_job, idle_same}
 use Rattle.schedule_laws.proofs.Works.{no_job}

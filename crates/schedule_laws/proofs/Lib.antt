@@ -26,7 +26,11 @@ pub mod Counts
 pub mod GatherLooks
 pub mod Closes
 pub mod ClosedFrames
-pub mod Locks
+pub mod ExitWays
 pub mod Served
+pub mod Exits
+pub mod Releases
+pub mod Endings
+pub mod Locks
 pub mod Desks
 pub mod Turns

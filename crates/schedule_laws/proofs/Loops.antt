@@ -1,12 +1,20 @@
 -- With whom a loop over the processors goes on, and how many it goes over.
-use Rattle.std.proofs.Common.{ℕ, zero, suc, ◌+◌, ◌-◌, ◌≡◌, ◌≢◌, ◌<◌, ◌≤◌, arith, Bool, true, false, cond, Option, Some, None, refl, sym, ap, subst, ⊎_elim, ◌∙◌}
-use Rattle.std.specs.Prelude.{◌&&◌, ◌==◌, not}
+use Rattle.std.proofs.Common.{ℕ, zero, suc, ◌+◌, ◌-◌, ◌≡◌, ◌≢◌, ◌<◌, ◌≤◌, arith, Bool, true, false, cond, Option, Some, None, refl, ap, subst, ⊎_elim, ◌∙◌}
+use Rattle.std.specs.Prelude.{◌&&◌, ◌==◌, not, if◌then◌else◌}
 use Rattle.std.specs.List.{count_by, range_with_len, find}
 use Rattle.std.proofs.lemmas.Bool.{cases_eq, cases_lt, cases_Bool, ne_eqb, eq-eqb}
 use Rattle.std.proofs.lemmas.List.Sums.{sum_by-cons}
+use Rattle.sync_words.specs.declared.row.Row.{Row}
 use Rattle.sync_words.specs.Steps.{next_below}
 use Rattle.schedule_laws.proofs.Stations.{bit}
 use Rattle.schedule_laws.proofs.Sums.{sum_below, sum_below-same, sum_below-head}
+
+-- a row by a number that is 0 or not
+pub if_zero : (x : ℕ) → x ≡ 0 → (a b : Row) (P : Row → Type 0) → P a → P (if x == 0 then a else b)
+if_zero x z a b P h = rw (eq-eqb x 0 z) h
+
+pub if_some : (x : ℕ) → x ≢ 0 → (a b : Row) (P : Row → Type 0) → P b → P (if x == 0 then a else b)
+if_some x z a b P h = rw (ne_eqb x 0 z) h
 
 -- the first number with a property
 abbrev pub Found : (ℕ → Bool) → ℕ → ℕ → Option ℕ → Type 0

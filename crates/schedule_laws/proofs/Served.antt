@@ -1,20 +1,18 @@
 -- Serving that is over: the machine's list is whole, and tells what is registered, and the pool.
-use Rattle.std.proofs.Common.{ℕ, ◌≡◌, ◌<◌, ◌≤◌, arith, List, [], Option, Some, None, refl, sym, ap, subst, ◌∙◌}
+use Rattle.std.proofs.Common.{ℕ, ◌≡◌, ◌<◌, ◌≤◌, arith, List, [], Option, Some, None, sym, ap, subst, ◌∙◌}
 use Rattle.std.specs.Prelude.{IsSomeAnd}
 use Rattle.cpu_table.specs.Data.{SetupData}
 use Rattle.handler_ops.specs.Forms.{Event, IsWhole}
-use Rattle.handler_ops.specs.Beginning.{at_begin, program_of, walks_of}
+use Rattle.handler_ops.specs.Beginning.{program_of, walks_of}
 use Rattle.handler_ops.specs.Places.{Place, IsOver}
 use Rattle.handler_ops.specs.Stands.{Leads}
-use Rattle.handler_ops.specs.Course.{after_all}
 use Rattle.handler_ops.proofs.Judging.{begins, ends_whole}
 use Rattle.handler_ops.proofs.Sessions.{stands_along}
 use Rattle.rendezvous_laws.proofs.Places.{leads_after}
 use Rattle.rendezvous_machine.specs.Machines.{Machine, Session}
 use Rattle.rendezvous_machine.specs.Listed.{IsServed, first_serving, place_by, place_in, place_of}
 use Rattle.schedule_laws.proofs.Scenes.{Scene}
-use Rattle.schedule_laws.proofs.Invariant.{Context, IsCourse, IsListed, IsReady, serves_from, mode_of, first_place}
-use Rattle.schedule_laws.proofs.Frames.{mode_le}
+use Rattle.schedule_laws.proofs.Invariant.{Context, IsListed, IsReady, serves_from, mode_of, first_place}
 use Rattle.schedule_laws.proofs.Facts.{some_and}
 
 pub some_map : {A : Type 0} (o : Option A) (P Q : A → Type 0) → IsSomeAnd o P → ((x : A) → P x → Q x) → IsSomeAnd o Q

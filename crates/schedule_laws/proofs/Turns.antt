@@ -14,6 +14,9 @@ use Rattle.schedule_laws.proofs.Gatherings.{mark_inside, take_source, look_at_ex
 use Rattle.schedule_laws.proofs.GatherLooks.{gather_first, find_missing, signal_missing, gather_second}
 use Rattle.schedule_laws.proofs.Closes.{mark_insync}
 use Rattle.schedule_laws.proofs.Desks.{lock_counter, await_reports, take_desk}
+use Rattle.schedule_laws.proofs.Exits.{leave_inside, await_released, await_dismissed}
+use Rattle.schedule_laws.proofs.Releases.{release, dismiss}
+use Rattle.schedule_laws.proofs.Endings.{give_chair, leave_insync, unlock_counter}
 use Rattle.schedule_laws.proofs.Schedules.{AllTurnsKept}
 
 -- a turn of the BSP at this position keeps what holds
@@ -26,14 +29,6 @@ pub record OwedTurns (d : SetupData) : Type 0 where
   pub begin_to_serve : LeadKept d BeginningToServe
   pub at_handlers : LeadKept d AtHandlers
   pub collect : (j : ℕ) → LeadKept d (Collecting j)
-  pub leave_inside : LeadKept d LeavingInside
-  pub release : (j : ℕ) → LeadKept d (Releasing j)
-  pub await_released : (left : ℕ) → LeadKept d (AwaitingReleased left)
-  pub dismiss : (j : ℕ) → LeadKept d (Dismissing j)
-  pub await_dismissed : (left : ℕ) → LeadKept d (AwaitingDismissed left)
-  pub give_chair : LeadKept d GivingChair
-  pub leave_insync : LeadKept d LeavingInsync
-  pub unlock_counter : LeadKept d UnlockingCounter
 
 module _ (d : SetupData) (owed : OwedTurns d) where
   lead_kept : (lead : Lead) → LeadKept d lead
@@ -51,14 +46,14 @@ module _ (d : SetupData) (owed : OwedTurns d) where
   lead_kept BeginningToServe c i s m t f l e q = owed.begin_to_serve c i s m t f l e q
   lead_kept AtHandlers c i s m t f l e q = owed.at_handlers c i s m t f l e q
   lead_kept (Collecting j) c i s m t f l e q = owed.collect j c i s m t f l e q
-  lead_kept LeavingInside c i s m t f l e q = owed.leave_inside c i s m t f l e q
-  lead_kept (Releasing j) c i s m t f l e q = owed.release j c i s m t f l e q
-  lead_kept (AwaitingReleased left) c i s m t f l e q = owed.await_released left c i s m t f l e q
-  lead_kept (Dismissing j) c i s m t f l e q = owed.dismiss j c i s m t f l e q
-  lead_kept (AwaitingDismissed left) c i s m t f l e q = owed.await_dismissed left c i s m t f l e q
-  lead_kept GivingChair c i s m t f l e q = owed.give_chair c i s m t f l e q
-  lead_kept LeavingInsync c i s m t f l e q = owed.leave_insync c i s m t f l e q
-  lead_kept UnlockingCounter c i s m t f l e q = owed.unlock_counter c i s m t f l e q
+  lead_kept LeavingInside c i s m t f l e q = leave_inside d c i s m t f l e q
+  lead_kept (Releasing j) c i s m t f l e q = release d c i s m t j f l e q
+  lead_kept (AwaitingReleased left) c i s m t f l e q = await_released d c i s m t left f l e q
+  lead_kept (Dismissing j) c i s m t f l e q = dismiss d c i s m t j f l e q
+  lead_kept (AwaitingDismissed left) c i s m t f l e q = await_dismissed d c i s m t left f l e q
+  lead_kept GivingChair c i s m t f l e q = give_chair d c i s m t f l e q
+  lead_kept LeavingInsync c i s m t f l e q = leave_insync d c i s m t f l e q
+  lead_kept UnlockingCounter c i s m t f l e q = unlock_counter d c i s m t f l e q
 
   turn_kept : (at : Position) (c : Context) (i : ℕ) (s : Scene) (m : Machine) (t : Seat) → Holds d c s m → i < d.processors → seat s i ≡ t → t.position ≡ at → KeptAt d s m i t at
   turn_kept AwaitingSmi c i s m t f l e q = await_smi d c i s m t f l e q
