@@ -42,6 +42,7 @@ use Rattle.cpu_program.specs.Actors.{OfProcessor, OfChipset}
 use Rattle.schedule_laws.proofs.Stations.{Station, Leading, station_of, bit, work_of, is_bsp, walk_of, phase_of, member_of, here_of, out_of, job_of, in_of, waits_of, made, low}
 use Rattle.schedule_laws.proofs.Leads.{stage_in, next_of, is_traditional, part_of, lists_of}
 use Rattle.schedule_laws.proofs.Sums.{sum_below}
+use Rattle.schedule_laws.proofs.HandlerFits.{PlaceFits}
 
 abbrev pub locked : ℕ
 locked = 16777215
@@ -267,10 +268,11 @@ pub record IsSignal (d : SetupData) (waves visits pend : ℕ) : Type 0 where
   pub some : 1 ≤ pend → 1 ≤ waves
   pub off : pend % 8 ≡ 4 → visits < d.visits → waves ≡ length d.waves
 
--- The word `busy` is 2 only where the job was run, and the desk lies there then.
+-- The word `busy` is 2 exactly where the job was run, and the desk lies there then.
 pub record IsBusy (x : Member) (busy : ℕ) (o : Option Cargo) : Type 0 where
   pub lies : work_of x.job ≡ 2 → o ≡ Some (cargo.Desk (desk_at x.image x.job))
   pub finished : busy ≡ 2 → work_of x.job ≡ 2
+  pub ran : work_of x.job ≡ 2 → busy ≡ 2
 
 -- SERVING
 
@@ -326,9 +328,12 @@ pub record IsBeginning (d : SetupData) (c : Context) (registrations : Registrati
   pub course : c.chair.course ≡ beginning c.wave (walks_of d.waves c.wave) (at_begin d registrations pool)
   pub told : c.chair.told ≡ told.Looking (say.Begin c.wave)
 
--- Serving goes on: what the server may count on holds of it, and its row was told by its course, with the desks that are held.
+-- Serving goes on: what the server may count on holds of it, and its row was told by its course, with the desks that are held. The
+-- BSP's own seat is the same in both places.
 pub record IsServing (d : SetupData) (c : Context) : Type 0 where
   pub goes_on : GoesOn c.chair.course.place
+  pub fits : PlaceFits d c.chair.course.place
+  pub own : seat_listed c c.bsp ≡ seat_known c c.bsp
   pub sound : IsSound (setting d c.bsp) (is_held c.held) c.chair.course.place.state
   pub told : c.chair.told ≡ row_of (setting d c.bsp) c.held c.chair.course
 

@@ -2,6 +2,11 @@ pub mod Scenes
 pub mod Stations
 pub mod Leads
 pub mod Sums
+pub mod HandlerFits
+pub mod HandlerSteps
+pub mod HandlerPlaces
+pub mod HandlerSays
+pub mod HandlerRows
 pub mod Invariant
 pub mod Frames
 pub mod OwnFrames

@@ -335,7 +335,7 @@ module _ (d : SetupData) (registers : List Registers) (images : List ImageConten
         jobs = λ j l _. first_job j l;
         idle = λ j l _. first_idle j l;
         signals = λ j l. rw (get_or-replicate {A = ℕ} d.processors j 0 0 l) (record { some = λ z. absurd (omega arith); off = λ z. absurd (omega arith) });
-        busies = λ j l. let f = first_is j l in rw (f.member_is, get_or-replicate {A = ℕ} d.processors j 0 0 l) (record { lies = λ z. absurd (omega arith); finished = λ z. absurd (omega arith) });
+        busies = λ j l. let f = first_is j l in rw (f.member_is, get_or-replicate {A = ℕ} d.processors j 0 0 l) (record { lies = λ z. absurd (omega arith); finished = λ z. absurd (omega arith); ran = λ z. absurd (omega arith) });
       }
 
   pub first_fine : IsFine d (start d registers images) machine
