@@ -14,7 +14,7 @@ use Rattle.rendezvous_machine.specs.Effects.{with_member}
 use Rattle.schedule_laws.proofs.Scenes.{Scene, Seat, Position, seat, no_seat, processor_of, actors_of, world_of, seat_put}
 use Rattle.schedule_laws.proofs.Stations.{Station, station_of, bit, work_of, is_bsp, member_of, made, made-le, member_of-le}
 use Rattle.schedule_laws.proofs.Sums.{sum_below-change, sum_below-bound}
-use Rattle.schedule_laws.proofs.Invariant.{Context, View, IsCpu, IsTotals, IsWords, IsChipset, IsCourse, IsJobOf, IsSized, sizes, IsReady, Holds, IsFine, IsAt, IsRunOf, IsIdle, IsSignal, IsBusy, globe, mode_of, view, view_at, view_of, seat_view, locked, members_in, team_in, raised_in}
+use Rattle.schedule_laws.proofs.Invariant.{Context, IsPlatform, IsSession, IsAim, View, IsCpu, IsTotals, IsWords, IsChipset, IsCourse, IsJobOf, IsSized, sizes, IsReady, Holds, IsFine, IsAt, IsRunOf, IsIdle, IsSignal, IsBusy, globe, mode_of, view, view_at, view_of, seat_view, locked, members_in, team_in, raised_in}
 
 -- THE WORLD AFTER A TURN
 
@@ -114,11 +114,26 @@ pub record IsMove (d : SetupData) (c : Context) (i : ℕ) (s s' : Scene) (m m' :
   pub signals : (j : ℕ) → j < d.processors → IsSignal d m'.waves (member m' j).visits (get_or s'.words.pend j 0)
   pub busies : (j : ℕ) → j < d.processors → IsBusy (member m' j) (get_or s'.words.busy j 0) (get_or s'.lying.busy j None)
 
-pub peer_moves : (d : SetupData) (c : Context) (i : ℕ) (s s' : Scene) (m m' : Machine) (v v' : View) (x : ℕ) → Holds d c s m → i < d.processors → i ≢ c.bsp
+-- what a move of an AP leaves alone or changes at one processor
+pub record IsAround (d : SetupData) (c : Context) (s : Scene) (m : Machine) : Type 0 where
+  pub platform : IsPlatform d
+  pub session : IsSession (mode_of d) c
+  pub totals : IsTotals c s.words.counter (get_or s.words.run c.bsp 0) (members_in d.processors (view s m)) (team_in d.processors (view s m)) (raised_in d.processors (view s m))
+  pub each : (j : ℕ) → j < d.processors → IsCpu d c m.waves j (view s m j)
+  pub runs : (j : ℕ) → j < d.processors → j ≢ c.bsp → IsRunOf c j (view s m j) (get_or s.words.run j 0)
+  pub idle : (j : ℕ) → j < d.processors → j ≢ c.bsp → IsIdle d c j (seat s j)
+  pub aim : IsAim d c
+  pub at : 1 ≤ c.stage → IsAt d c m.registrations m.pool (seat s c.bsp)
+
+pub around : (d : SetupData) (c : Context) (s : Scene) (m : Machine) → Holds d c s m → IsAround d c s m
+around d c s m f =
+    let g = f.ready in
+    record { platform = g.platform; session = g.session; totals = g.totals; each = g.each; runs = g.runs; idle = g.idle; aim = f.aim; at = f.at }
+
+pub peers_move : (d : SetupData) (c : Context) (i : ℕ) (s s' : Scene) (m m' : Machine) (v v' : View) (x : ℕ) → IsAround d c s m → i < d.processors → i ≢ c.bsp
     → IsMove d c i s s' m m' v v' x → IsDelta c s.words.counter (get_or s.words.run c.bsp 0) v s'.words.counter (get_or s'.words.run c.bsp 0) v' → IsCpu d c m'.waves i v'
     → IsRunOf c i v' x → Holds d c s' m'
-peer_moves d c i s s' m m' v v' x f l nb t e own run =
-    let g = f.ready in
+peers_move d c i s s' m m' v v' x g l nb t e own run =
     let delta : IsDelta c s.words.counter (get_or s.words.run c.bsp 0) (view s m i) s'.words.counter (get_or s'.words.run c.bsp 0) (view s' m' i) =
     subst (λ (y : View). IsDelta c s.words.counter (get_or s.words.run c.bsp 0) y s'.words.counter (get_or s'.words.run c.bsp 0) (view s' m' i)) (sym t.old)
     (subst (λ (y : View). IsDelta c s.words.counter (get_or s.words.run c.bsp 0) v s'.words.counter (get_or s'.words.run c.bsp 0) y) (sym t.new) e) in
@@ -153,11 +168,16 @@ peer_moves d c i s s' m m' v v' x f l nb t e own run =
         signals = t.signals;
         busies = t.busies;
       };
-      aim = f.aim;
+      aim = g.aim;
       at = λ z.
-          let was : IsAt d c m.registrations m.pool (seat s' c.bsp) = subst (IsAt d c m.registrations m.pool) (sym (t.seats c.bsp (λ y. nb (sym y)))) (f.at z) in
+          let was : IsAt d c m.registrations m.pool (seat s' c.bsp) = subst (IsAt d c m.registrations m.pool) (sym (t.seats c.bsp (λ y. nb (sym y)))) (g.at z) in
           rw (t.registered, t.pooled) was;
     }
+
+pub peer_moves : (d : SetupData) (c : Context) (i : ℕ) (s s' : Scene) (m m' : Machine) (v v' : View) (x : ℕ) → Holds d c s m → i < d.processors → i ≢ c.bsp
+    → IsMove d c i s s' m m' v v' x → IsDelta c s.words.counter (get_or s.words.run c.bsp 0) v s'.words.counter (get_or s'.words.run c.bsp 0) v' → IsCpu d c m'.waves i v'
+    → IsRunOf c i v' x → Holds d c s' m'
+peer_moves d c i s s' m m' v v' x f l nb t e own run = peers_move d c i s s' m m' v v' x (around d c s m f) l nb t e own run
 
 -- the view of one that moves
 pub view_is : (s : Scene) (m : Machine) (i : ℕ) (t : Seat) (at : Position) → seat s i ≡ t → t.position ≡ at → view s m i ≡ view_at (station_of at) t s m i
@@ -242,6 +262,18 @@ busies_more d m i x s lm t h j k =
     (λ (q : j ≡ i). subst (λ (y : ℕ). y < d.processors → IsBusy (member (with_member i x m) y) (get_or s.words.busy y 0) (get_or s.lying.busy y None)) (sym q)
     (λ l. subst (λ (y : Member). IsBusy y (get_or s.words.busy i 0) (get_or s.lying.busy i None)) (sym (get_or-set_same m.members i x nobody lm)) (t (h i l))) k)
     (λ (q : j ≢ i). subst (λ (y : Member). IsBusy y (get_or s.words.busy j 0) (get_or s.lying.busy j None)) (sym (get_or-set_other m.members i j x nobody q)) (h j k))
+    (cases_eq j i)
+
+-- a word `busy` and what lies on it change, and the member of its processor
+pub busies_set : (d : SetupData) (m : Machine) (i y : ℕ) (o : Option Cargo) (x : Member) (s : Scene) (lies : List (Option Cargo)) → i < length m.members
+    → i < length s.words.busy → get_or lies i None ≡ o → ((j : ℕ) → j ≢ i → get_or lies j None ≡ get_or s.lying.busy j None) → IsBusy x y o
+    → ((j : ℕ) → j < d.processors → IsBusy (member m j) (get_or s.words.busy j 0) (get_or s.lying.busy j None)) → (j : ℕ) → j < d.processors
+    → IsBusy (member (with_member i x m) j) (get_or (slice_set s.words.busy i y) j 0) (get_or lies j None)
+busies_set d m i y o x s lies lm lb at off t h j k =
+    ⊎_elim
+    (λ (q : j ≡ i). subst (λ (u : ℕ). IsBusy (member (with_member i x m) u) (get_or (slice_set s.words.busy i y) u 0) (get_or lies u None)) (sym q)
+    (rw (get_or-set_same m.members i x nobody lm, get_or-set_same s.words.busy i y 0 lb, at) t))
+    (λ (q : j ≢ i). rw (get_or-set_other m.members i j x nobody q, get_or-set_other s.words.busy i j y 0 q, off j q) (h j k))
     (cases_eq j i)
 
 -- a processor's member changes, and its job stays

@@ -316,6 +316,7 @@ pub record IsListed (known listed : Place) : Type 0 where
 -- place that is the server's but for the jobs; and after the handlers serving is over.
 pub record IsCourse (d : SetupData) (c : Context) (registrations : Registrations) (pool : PoolState) : Type 0 where
   pub setup : c.chair.setup ≡ d
+  pub size : length c.chair.course.place.state.seats ≡ d.processors
   pub registered : c.stage ≤ begins_from (mode_of d) → c.chair.course.place.state.registrations ≡ registrations
   pub pooled : c.stage ≤ begins_from (mode_of d) → c.chair.course.place.state.pool ≡ pool
   pub me : begins_from (mode_of d) ≤ c.stage → c.chair.me ≡ c.bsp

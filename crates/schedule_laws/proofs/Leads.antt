@@ -1,5 +1,6 @@
 -- How far a session is by the position of its BSP, in numbers: 0 is for none.
-use Rattle.std.proofs.Common.{ℕ, ◌+◌, ◌≡◌, ◌≤◌, ◌<◌, refl, arith, Bool, true, false}
+use Rattle.std.proofs.Common.{ℕ, ◌+◌, ◌-◌, ◌*◌, ◌≡◌, ◌≤◌, ◌⊎◌, inl, inr, refl, arith, Bool, true, false}
+use Rattle.schedule_laws.proofs.Stations.{bit}
 use Rattle.schedule_laws.proofs.Scenes.{Lead, MarkingInside, TakingSource, LookingAtExcept, GatheringFirst, FindingMissing, SignallingMissing, GatheringSecond, MarkingInsync, LockingCounter, AwaitingReports, TakingDesk, BeginningToServe, AtHandlers, Collecting, LeavingInside, Releasing, AwaitingReleased, Dismissing, AwaitingDismissed, GivingChair, LeavingInsync, UnlockingCounter}
 
 -- where the handlers are begun, by the mode: the relaxed one begins them before it closes
@@ -162,3 +163,56 @@ stage_some (AwaitingDismissed _) relaxed = omega arith
 stage_some GivingChair relaxed = omega arith
 stage_some LeavingInsync relaxed = omega arith
 stage_some UnlockingCounter relaxed = omega arith
+
+-- the stages 4 and 13 are those at which the handlers serve
+pub serves_stage : (l : Lead) (relaxed : Bool) (k : ℕ) → stage_in l relaxed ≡ k → (k ≡ 4) ⊎ (k ≡ 13) → k ≡ 13 - 9 * bit relaxed
+serves_stage MarkingInside relaxed k e (inl h) = absurd (omega arith)
+serves_stage MarkingInside relaxed k e (inr h) = absurd (omega arith)
+serves_stage TakingSource relaxed k e (inl h) = absurd (omega arith)
+serves_stage TakingSource relaxed k e (inr h) = absurd (omega arith)
+serves_stage LookingAtExcept relaxed k e (inl h) = absurd (omega arith)
+serves_stage LookingAtExcept relaxed k e (inr h) = absurd (omega arith)
+serves_stage (GatheringFirst _) relaxed k e (inl h) = absurd (omega arith)
+serves_stage (GatheringFirst _) relaxed k e (inr h) = absurd (omega arith)
+serves_stage (FindingMissing _) relaxed k e (inl h) = absurd (omega arith)
+serves_stage (FindingMissing _) relaxed k e (inr h) = absurd (omega arith)
+serves_stage (SignallingMissing _) relaxed k e (inl h) = absurd (omega arith)
+serves_stage (SignallingMissing _) relaxed k e (inr h) = absurd (omega arith)
+serves_stage (GatheringSecond _) relaxed k e (inl h) = absurd (omega arith)
+serves_stage (GatheringSecond _) relaxed k e (inr h) = absurd (omega arith)
+serves_stage MarkingInsync relaxed k e (inl h) = absurd (omega arith)
+serves_stage MarkingInsync relaxed k e (inr h) = absurd (omega arith)
+serves_stage LockingCounter relaxed k e (inl h) = absurd (omega arith)
+serves_stage LockingCounter relaxed k e (inr h) = absurd (omega arith)
+serves_stage (AwaitingReports _) relaxed k e (inl h) = absurd (omega arith)
+serves_stage (AwaitingReports _) relaxed k e (inr h) = absurd (omega arith)
+serves_stage (TakingDesk _) relaxed k e (inl h) = absurd (omega arith)
+serves_stage (TakingDesk _) relaxed k e (inr h) = absurd (omega arith)
+serves_stage BeginningToServe true k e (inl h) = omega arith
+serves_stage BeginningToServe true k e (inr h) = omega arith
+serves_stage BeginningToServe false k e (inl h) = omega arith
+serves_stage BeginningToServe false k e (inr h) = omega arith
+serves_stage AtHandlers true k e (inl h) = omega arith
+serves_stage AtHandlers true k e (inr h) = omega arith
+serves_stage AtHandlers false k e (inl h) = omega arith
+serves_stage AtHandlers false k e (inr h) = omega arith
+serves_stage (Collecting _) true k e (inl h) = omega arith
+serves_stage (Collecting _) true k e (inr h) = omega arith
+serves_stage (Collecting _) false k e (inl h) = omega arith
+serves_stage (Collecting _) false k e (inr h) = omega arith
+serves_stage LeavingInside relaxed k e (inl h) = absurd (omega arith)
+serves_stage LeavingInside relaxed k e (inr h) = absurd (omega arith)
+serves_stage (Releasing _) relaxed k e (inl h) = absurd (omega arith)
+serves_stage (Releasing _) relaxed k e (inr h) = absurd (omega arith)
+serves_stage (AwaitingReleased _) relaxed k e (inl h) = absurd (omega arith)
+serves_stage (AwaitingReleased _) relaxed k e (inr h) = absurd (omega arith)
+serves_stage (Dismissing _) relaxed k e (inl h) = absurd (omega arith)
+serves_stage (Dismissing _) relaxed k e (inr h) = absurd (omega arith)
+serves_stage (AwaitingDismissed _) relaxed k e (inl h) = absurd (omega arith)
+serves_stage (AwaitingDismissed _) relaxed k e (inr h) = absurd (omega arith)
+serves_stage GivingChair relaxed k e (inl h) = absurd (omega arith)
+serves_stage GivingChair relaxed k e (inr h) = absurd (omega arith)
+serves_stage LeavingInsync relaxed k e (inl h) = absurd (omega arith)
+serves_stage LeavingInsync relaxed k e (inr h) = absurd (omega arith)
+serves_stage UnlockingCounter relaxed k e (inl h) = absurd (omega arith)
+serves_stage UnlockingCounter relaxed k e (inr h) = absurd (omega arith)

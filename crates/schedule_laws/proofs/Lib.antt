@@ -16,3 +16,11 @@ pub mod VisitMoves
 pub mod ReportMoves
 pub mod LeadFrames
 pub mod ClosedStages
+pub mod Facts
+pub mod ImageKinds
+pub mod Visits
+pub mod Reports
+pub mod Works
+pub mod WorkRuns
+pub mod SessionFrames
+pub mod Elections

@@ -9,6 +9,8 @@ use Rattle.save_state_map.specs.Images.{ImageContents}
 use Rattle.cpu_regs.specs.Registers.{Registers}
 use Rattle.cpu_table.specs.Data.{SetupData}
 use Rattle.handler_ops.specs.declared.desk.Desk.{Desk}
+use Rattle.handler_ops.specs.declared.seat.Seat.{Seat as JobSeat}
+use Rattle.handler_ops.specs.declared.seat.Seat.TheVariants.{Free}
 use Rattle.handler_ops.specs.Sessions.{first_session}
 use Rattle.handler_ops.specs.Sessions.{Session as Chair}
 use Rattle.cpu_program.specs.declared.cargo.Cargo.{Cargo}
@@ -327,7 +329,7 @@ module _ (d : SetupData) (registers : List Registers) (images : List ImageConten
           session = λ z. absurd (omega arith);
         };
         session = record { bsp = λ z. absurd (omega arith); unserved = λ _. refl; served = λ z. absurd (omega arith); ungathered = λ _. refl; gathered = λ _ z. absurd (omega arith); unready = λ _. refl; fresh = λ _. refl; expired = λ _ z. absurd (omega arith); waited = λ _ z. absurd (omega arith); unclosed = λ _. refl; closed = λ z. absurd (omega arith); unbegun = λ _. refl; undone = λ _. refl; done = λ z. absurd (omega arith) };
-        course = record { setup = refl; registered = λ _. refl; pooled = λ _. refl; me = λ z. absurd (omega arith); led = λ z. absurd (omega arith); listed = λ z. absurd (omega arith); over = λ z. absurd (omega arith) };
+        course = record { setup = refl; size = length-replicate {A = JobSeat} d.processors Free; registered = λ _. refl; pooled = λ _. refl; me = λ z. absurd (omega arith); led = λ z. absurd (omega arith); listed = λ z. absurd (omega arith); over = λ z. absurd (omega arith) };
         chipset = record { before = λ _. (refl, refl, let w = p.platform.waves in omega arith); between = λ z. absurd (omega arith); announced = λ z. absurd (omega arith); through = λ z. absurd (omega arith) };
         totals = first_totals;
         each = first_cpu;
