@@ -22,13 +22,14 @@ use Rattle.handler_ops.specs.declared.desk.Job.{Job}
 use Rattle.handler_ops.specs.declared.seat.Seat.{Seat}
 use Rattle.handler_ops.specs.declared.seat.Seat.TheVariants.{Free, Open, Done}
 use Rattle.handler_ops.specs.declared.token.Token.{Token}
+use Rattle.handler_ops.specs.declared.reach.Reach.TheVariants.{Outside, AtHand, Working, Elsewhere}
 use Rattle.handler_ops.specs.declared.row.Row.{Row}
 use Rattle.handler_ops.specs.declared.row.Row.TheVariants as told
-use Rattle.handler_ops.specs.Serving.{Serving, HasOpen, IsFree, TokenState, Uncollected, number, seat, owner, owes_token, state_of, token_of}
+use Rattle.handler_ops.specs.Serving.{Serving, HasOpen, IsFree, number, seat, owner, owes_token, state_of, token_of}
 use Rattle.handler_ops.specs.Operations.{register_of, procedure_place}
 use Rattle.handler_ops.specs.Beginning.{program_of}
 use Rattle.handler_ops.specs.Places.{Place}
-use Rattle.handler_ops.specs.Course.{Setting, Desks, Course, Reach, Outside, AtHand, Working, Elsewhere, Due, Nothing, Saying, Awaiting, Doing, is_held, has_job, has_token, tokens_out, reach, first_cause, read_of, write_of, shown_value, blank, register_label, open_label, read_label, write_label, alloc_label, due}
+use Rattle.handler_ops.specs.Course.{Setting, Desks, Course, Due, Nothing, Saying, Awaiting, Doing, is_held, has_job, has_token, tokens_out, reach, first_cause, read_of, write_of, shown_value, blank, register_label, open_label, read_label, write_label, alloc_label, due}
 use Rattle.handler_ops.specs.Conditions.{IsSound}
 use Rattle.handler_ops.specs.NextRow.{desk_row, reading_row, writing_row, start_row, starting_row, checking_row, waiting_row, operation_row, due_row, row_of}
 use Rattle.rendezvous_machine.specs.declared.phase.Phase.{Phase}
@@ -110,10 +111,10 @@ job_open None P h u = absurd h
 job_open (Some job) P h u = let e = open_done job.done u in rw e (refl, λ present. refl)
 
 module _ (d : SetupData) (c : Context) (s : Scene) (m : Machine) (w : IsWatched d c s m) where
-  known : Serving
+  abbrev known : Serving
   known = c.chair.course.place.state
 
-  busy_of : ℕ → ℕ
+  abbrev busy_of : ℕ → ℕ
   busy_of x = get_or s.words.busy x 0
 
   no_job : (x : ℕ) → x < d.processors → x ≢ c.bsp → has_job (seat_known c x) ≡ false → (member m x).job ≡ None
@@ -190,7 +191,7 @@ module _ (d : SetupData) (c : Context) (s : Scene) (m : Machine) (w : IsWatched 
   in_is : (x : ℕ) → not (nat_lt x d.processors) ≡ false → x < d.processors
   in_is x e = below x (not_false (nat_lt x d.processors) e)
 
-  T : Row → Type 0
+  abbrev T : Row → Type 0
   T r = RowFits d c s m r
 
   reading_fits : (x reg width : ℕ) → is_register_number reg ≡ true → T (reading_row (setting d c.bsp) c.held known x reg width)
@@ -297,7 +298,7 @@ job_token (Some job) q = done_token job.done q
 -- a token that is out has its job's processor
 owner_there : (n : ℕ) (qs : List Seat) (x : ℕ) → owner n qs ≡ Some x → (x < length qs) × (has_job (seat_in qs x) ≡ true)
 owner_there n [] x e = cc
-owner_there n (q ∷ qs) x e = first q refl e
+owner_there n (q ∷ qs) x e = first q refl e (λ y h. owner_there n qs y h)
   where
     some_inj : (a b : ℕ) → Some a ≡ Some b → a ≡ b
     some_inj a b e = ap (λ (o : Option ℕ). unwrap_or o 0) e
@@ -311,16 +312,18 @@ owner_there n (q ∷ qs) x e = first q refl e
         subst (λ (i : ℕ). (i < length (q ∷ qs)) × (has_job (seat_in (q ∷ qs) i) ≡ true)) v (omega (arith, u.0), u.1)
 
     here : (p : Seat) (b : Bool) → owes_token n p ≡ b → q ≡ p → cond b (Some 0) (option_map suc (owner n qs)) ≡ Some x
+        → ((y : ℕ) → owner n qs ≡ Some y → (y < length qs) × (has_job (seat_in qs y) ≡ true))
         → (x < length (q ∷ qs)) × (has_job (seat_in (q ∷ qs) x) ≡ true)
-    here p false k i h = behind (owner n qs) (owner_there n qs) h
-    here Free true k i h = cc
-    here (Open j t) true k i h =
+    here p false k i h f = behind (owner n qs) f h
+    here Free true k i h f = cc
+    here (Open j t) true k i h f =
         subst (λ (y : ℕ). (y < length (q ∷ qs)) × (has_job (seat_in (q ∷ qs) y) ≡ true)) (some_inj 0 x h) (omega arith, ap has_job i)
-    here (Done j t y S) true k i h =
+    here (Done j t y S) true k i h f =
         subst (λ (z : ℕ). (z < length (q ∷ qs)) × (has_job (seat_in (q ∷ qs) z) ≡ true)) (some_inj 0 x h) (omega arith, ap has_job i)
 
-    first : (p : Seat) → q ≡ p → owner n (q ∷ qs) ≡ Some x → (x < length (q ∷ qs)) × (has_job (seat_in (q ∷ qs) x) ≡ true)
-    first p i h = here p (owes_token n p) refl i (subst (λ (r : Seat). cond (owes_token n r) (Some 0) (option_map suc (owner n qs)) ≡ Some x) i h)
+    first : (p : Seat) → q ≡ p → owner n (q ∷ qs) ≡ Some x → ((y : ℕ) → owner n qs ≡ Some y → (y < length qs) × (has_job (seat_in qs y) ≡ true))
+        → (x < length (q ∷ qs)) × (has_job (seat_in (q ∷ qs) x) ≡ true)
+    first p i h f = here p (owes_token n p) refl i (subst (λ (r : Seat). cond (owes_token n r) (Some 0) (option_map suc (owner n qs)) ≡ Some x) i h) f
 
 free_no_job : (q : Seat) → IsFree q → has_job q ≡ false
 free_no_job Free h = refl
@@ -332,13 +335,13 @@ true_apart true h k = cc
 true_apart false h k = cc
 
 module _ (d : SetupData) (c : Context) (s : Scene) (m : Machine) (w : IsWatched d c s m) where
-  state : Serving
+  abbrev state : Serving
   state = c.chair.course.place.state
 
-  listed : List Seat
+  abbrev listed : List Seat
   listed = c.place.state.seats
 
-  U : Row → Type 0
+  abbrev U : Row → Type 0
   U r = RowFits d c s m r
 
   -- one with a job is another than the BSP

@@ -97,12 +97,13 @@ absent_value true b bytes = refl
 absent_value false true bytes = refl
 absent_value false false bytes = refl
 
-absent_case : (a b e : Bool) (out : List ℕ) (other : ReadAnswer)
-    → (if a then record { status = InvalidParameter; out = out }
+abbrev absent_answer : Bool → Bool → Bool → List ℕ → ReadAnswer → ReadAnswer
+absent_answer a b e out other =
+    if a then record { status = InvalidParameter; out = out }
     else (if b && true then record { status = NotFound; out = out }
-    else (if b && e then record { status = InvalidParameter; out = out }
-    else (if b then other
-    else record { status = InvalidParameter; out = out })))).status ≡ absent_status a b
+    else (if b && e then record { status = InvalidParameter; out = out } else (if b then other else record { status = InvalidParameter; out = out })))
+
+absent_case : (a b e : Bool) (out : List ℕ) (other : ReadAnswer) → (absent_answer a b e out other).status ≡ absent_status a b
 absent_case true b e out other = refl
 absent_case false true e out other = refl
 absent_case false false e out other = refl
@@ -129,10 +130,10 @@ unwritten_status true b = InvalidParameter
 unwritten_status false true = Success
 unwritten_status false false = InvalidParameter
 
-unwritten_case : (a b : Bool) (m : ImageContents)
-    → (if a then record { status = InvalidParameter; image = m }
-    else (if b then record { status = Success; image = m }
-    else record { status = InvalidParameter; image = m })).status ≡ unwritten_status a b
+abbrev unwritten_answer : Bool → Bool → ImageContents → WriteAnswer → WriteAnswer
+unwritten_answer a b m rest = if a then record { status = InvalidParameter; image = m } else (if b then record { status = Success; image = m } else rest)
+
+unwritten_case : (a b : Bool) (m : ImageContents) → (unwritten_answer a b m (record { status = InvalidParameter; image = m })).status ≡ unwritten_status a b
 unwritten_case true b m = refl
 unwritten_case false true m = refl
 unwritten_case false false m = refl
@@ -142,11 +143,7 @@ pub write_status : (image : ImageContents) (reg width x : ℕ)
 write_status image reg width x = unwritten_case (length (low_bytes width x) == 0) (reg == register_number registers.ProcessorId) image
 
 stays_case : (a b : Bool) (m : ImageContents) (rest : WriteAnswer) (r : Register) (width x : ℕ)
-    → (write_of true m (register_number r) width x).image
-    ≡ (if a then record { status = InvalidParameter; image = m }
-    else (if b then record { status = Success; image = m }
-    else rest)).image
-    → written (unwritten_status a b) r width x m ≡ m
+    → (write_of true m (register_number r) width x).image ≡ (unwritten_answer a b m rest).image → written (unwritten_status a b) r width x m ≡ m
 stays_case true b m rest r width x e = refl
 stays_case false true m rest r width x e = e
 stays_case false false m rest r width x e = refl

@@ -24,3 +24,4 @@ pub mod Works
 pub mod WorkRuns
 pub mod SessionFrames
 pub mod Elections
+pub mod HandlerLandings
