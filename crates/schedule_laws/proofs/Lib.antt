@@ -24,4 +24,10 @@ pub mod Works
 pub mod WorkRuns
 pub mod SessionFrames
 pub mod Elections
+pub mod Gatherings
+pub mod Loops
+pub mod Counts
+pub mod GatherLooks
+pub mod Closes
+pub mod Turns
 pub mod HandlerLandings

@@ -1,15 +1,31 @@
 -- What a further stage of the session leaves as it is, where no view changes; and what the BSP may say.
 use Rattle.std.proofs.Common.{ℕ, zero, suc, ◌+◌, ◌-◌, ◌*◌, ◌≡◌, ◌≢◌, ◌<◌, ◌≤◌, arith, Bool, true, false, List, length, get_or, slice_set, Option, Some, None, refl, sym, ap, subst, ⊎_elim, ◌∙◌}
 use Rattle.std.specs.Prelude.{IsSomeAnd, option_map, ◌&&◌, ◌==◌, not}
-use Rattle.std.proofs.lemmas.Bool.{cases_eq, cases_lt, eq-eqb, ne_eqb}
+use Rattle.std.proofs.lemmas.Bool.{cases_eq, cases_lt, ne_eqb}
+use Rattle.std.proofs.lemmas.List.{length-replicate}
+use Rattle.smm_base.specs.declared.kinds.Policy.{Policy}
+use Rattle.smm_base.specs.declared.kinds.Policy.TheVariants.{Elected, Fixed}
 use Rattle.cpu_table.specs.Data.{SetupData}
+use Rattle.handler_registry.specs.Registrations.{Registrations}
+use Rattle.smram_pool.specs.State.{PoolState}
 use Rattle.handler_ops.specs.declared.desk.Job.{Job}
+use Rattle.handler_ops.specs.declared.seat.Seat.{Seat as JobSeat}
+use Rattle.handler_ops.specs.declared.seat.Seat.TheVariants.{Free}
+use Rattle.handler_ops.specs.Answering.{told_on}
+use Rattle.handler_ops.specs.Beginning.{at_begin, walks_of}
+use Rattle.handler_ops.specs.Conditions.{beginning}
+use Rattle.handler_ops.specs.Course.{Course}
+use Rattle.handler_ops.specs.Sessions.{Session as Chair, begun_session}
+use Rattle.cpu_program.specs.Processors.{is_relaxed}
+use Rattle.rendezvous_core.specs.Worlds.{Words, Lying}
 use Rattle.rendezvous_machine.specs.Machines.{Machine, Session, IsBsp, member}
-use Rattle.schedule_laws.proofs.Scenes.{Scene, Seat, seat}
-use Rattle.schedule_laws.proofs.Stations.{bit, member_of, made}
-use Rattle.schedule_laws.proofs.Invariant.{Context, View, IsCpu, IsTotals, IsWords, IsSession, IsCourse, IsChipset, IsSized, IsReady, IsAim, IsJobOf, IsIdle, IsRunOf, IsSignal, IsBusy, begins_from, serves_from, mode_of, globe, sizes, view, members_in, team_in, raised_in}
-use Rattle.schedule_laws.proofs.Frames.{mode_le}
-use Rattle.schedule_laws.proofs.LeadFrames.{at_stage}
+use Rattle.rendezvous_machine.specs.Platforms.{MayLead}
+use Rattle.schedule_laws.proofs.Scenes.{Scene, Seat, Lead, Leading as LeadingAt, seat, actors_of, processor_of}
+use Rattle.schedule_laws.proofs.Stations.{Leading, station_of}
+use Rattle.schedule_laws.proofs.Leads.{stage_in, stage_some, next_of, is_traditional, part_of}
+use Rattle.schedule_laws.proofs.Invariant.{Context, View, IsCpu, IsTotals, IsWords, IsSession, IsCourse, IsChipset, IsSized, IsReady, IsFine, IsAim, IsBeginning, IsJobOf, IsIdle, IsRunOf, IsSignal, IsBusy, begins_from, serves_from, mode_of, chair_home, globe, seat_view, sizes, view, members_in, team_in, raised_in}
+use Rattle.schedule_laws.proofs.Frames.{mode_le, seated}
+use Rattle.schedule_laws.proofs.LeadFrames.{at_stage, Reached, IsHolding, reaches}
 use Rattle.schedule_laws.proofs.Facts.{some_and}
 
 -- the BSP says what holds of the session
@@ -109,7 +125,29 @@ resting_course d c c' m e a b h =
 pub idle_same : (d : SetupData) (c c' : Context) (j : ℕ) (t : Seat) → c'.chair ≡ c.chair → IsIdle d c j t → IsIdle d c' j t
 idle_same d c c' j t e h = record { size = h.size; held = h.held; chair = rw e h.chair }
 
--- A step within an open session that changes neither the words that views show nor the counter, where nothing is served.
+-- A step within an open session that changes neither the words that views show nor the counter, where nothing is served. The BSP may have a new list of desks.
+pub open_listed : (d : SetupData) (c : Context) (k x k' x' : ℕ) (s s' : Scene) (m m' : Machine) (session : Session) (wave blocked : ℕ) (listed : List Bool) → 1 ≤ k → k ≤ 9 → 2 ≤ k' → k' ≤ 9
+    → k ≢ 4 → (k' ≤ 3 → k ≤ 3) → k' ≢ serves_from (mode_of d) → IsReady d (at_stage c k x) s m → view s' m' ≡ view s m → s'.seats ≡ s.seats
+    → s'.words.counter ≡ s.words.counter → s'.words.run ≡ s.words.run → s'.watch ≡ s.watch → m'.waves ≡ m.waves → m'.excepted ≡ m.excepted
+    → ((j : ℕ) → j < d.processors → IsSignal d m'.waves (view s m j).visits (get_or s'.words.pend j 0))
+    → ((j : ℕ) → j < d.processors → IsBusy (member m' j) (get_or s'.words.busy j 0) (get_or s'.lying.busy j None)) → IsSized d (at_stage c k x) (sizes s' m')
+    → IsWords d (record (at_stage c k' x') { wave = wave; blocked = blocked; session = session; listed = listed }) (globe s' m')
+    → IsSession (mode_of d) (record (at_stage c k' x') { wave = wave; blocked = blocked; session = session; listed = listed })
+    → IsCourse d (record (at_stage c k' x') { wave = wave; blocked = blocked; session = session; listed = listed }) m'.registrations m'.pool
+    → IsReady d (record (at_stage c k' x') { wave = wave; blocked = blocked; session = session; listed = listed }) s' m'
+open_listed d c k x k' x' s s' m m' session wave blocked listed a b low high off early n f same seats counter run watch waves excepted signals busies sized words is course =
+    let c1 : Context = at_stage c k x in
+    let c2 : Context = record (at_stage c k' x') { wave = wave; blocked = blocked; session = session; listed = listed } in
+    reframe d c1 c2 s s' m m' f same seats (rw (watch, waves, excepted) f.chipset) waves signals busies
+    (record { seats = sized.seats; pend = sized.pend; present = sized.present; run = sized.run; busy = sized.busy; on_present = sized.on_present; on_run = sized.on_run; on_busy = sized.on_busy; members = sized.members; held = λ _. sized.held a })
+    words is course
+    (rw (counter, run) (open_totals c1 c2 s.words.counter (get_or s.words.run c.bsp 0) _ _ _ a b high f.totals))
+    (λ j g. open_cpu d c1 c2 m.waves j (view s m j) refl refl b high low off early (f.each j g))
+    (λ j g q. rw run (open_run c1 c2 j (view s m j) (get_or s.words.run j 0) b high (f.runs j g q)))
+    (λ j g q. resting_job d c1 c2 j (view s m j).job n (f.jobs j g q))
+    (λ j g q. idle_same d c1 c2 j (seat s j) refl (f.idle j g q))
+
+-- the same where the list stays
 pub open_ready : (d : SetupData) (c : Context) (k x k' x' : ℕ) (s s' : Scene) (m m' : Machine) (session : Session) (wave blocked : ℕ) → 1 ≤ k → k ≤ 9 → 2 ≤ k' → k' ≤ 9
     → k ≢ 4 → (k' ≤ 3 → k ≤ 3) → k' ≢ serves_from (mode_of d) → IsReady d (at_stage c k x) s m → view s' m' ≡ view s m → s'.seats ≡ s.seats
     → s'.words.counter ≡ s.words.counter → s'.words.run ≡ s.words.run → s'.watch ≡ s.watch → m'.waves ≡ m.waves → m'.excepted ≡ m.excepted
@@ -120,16 +158,7 @@ pub open_ready : (d : SetupData) (c : Context) (k x k' x' : ℕ) (s s' : Scene) 
     → IsCourse d (record (at_stage c k' x') { wave = wave; blocked = blocked; session = session }) m'.registrations m'.pool
     → IsReady d (record (at_stage c k' x') { wave = wave; blocked = blocked; session = session }) s' m'
 open_ready d c k x k' x' s s' m m' session wave blocked a b low high off early n f same seats counter run watch waves excepted signals busies sized words is course =
-    let c1 : Context = at_stage c k x in
-    let c2 : Context = record (at_stage c k' x') { wave = wave; blocked = blocked; session = session } in
-    reframe d c1 c2 s s' m m' f same seats (rw (watch, waves, excepted) f.chipset) waves signals busies
-    (record { seats = sized.seats; pend = sized.pend; present = sized.present; run = sized.run; busy = sized.busy; on_present = sized.on_present; on_run = sized.on_run; on_busy = sized.on_busy; members = sized.members; held = λ _. sized.held a })
-    words is course
-    (rw (counter, run) (open_totals c1 c2 s.words.counter (get_or s.words.run c.bsp 0) _ _ _ a b high f.totals))
-    (λ j g. open_cpu d c1 c2 m.waves j (view s m j) refl refl b high low off early (f.each j g))
-    (λ j g q. rw run (open_run c1 c2 j (view s m j) (get_or s.words.run j 0) b high (f.runs j g q)))
-    (λ j g q. resting_job d c1 c2 j (view s m j).job n (f.jobs j g q))
-    (λ j g q. idle_same d c1 c2 j (seat s j) refl (f.idle j g q))
+    open_listed d c k x k' x' s s' m m' session wave blocked c.listed a b low high off early n f same seats counter run watch waves excepted signals busies sized words is course
 
 -- the words at another stage of an open session, with `inside`, `insync` and `source` as they then are
 pub words_open : (d : SetupData) (c : Context) (k x k' x' : ℕ) (s : Scene) (m : Machine) (inside insync : ℕ) (o : Option Session) (session : Session) (wave blocked : ℕ)
@@ -163,3 +192,107 @@ words_open d c k x k' x' s m inside insync o session wave blocked a b low high i
 pub no_aim : (d : SetupData) (c : Context) (k x : ℕ) → k ≢ 6 → k ≢ 11 → k ≢ 15 → k ≢ 17 → k ≢ 19 → (8 ≤ k → 11 ≤ k) → IsAim d (at_stage c k x)
 no_aim d c k x a b e f n g =
     record { signals = λ z. absurd (a z); takes = λ z. absurd (b z); releases = λ z. absurd (e z); dismisses = λ z. absurd (f z); gives = λ z. absurd (n z); closes = λ z y. absurd (let u = g z in omega arith); closes_on = λ z. absurd (b z) }
+
+-- THE STATE OF SERVING CHANGES
+
+-- where the BSP has the chair, the others' chairs don't depend on it
+home_same : (policy : Policy) (bsp j : ℕ) (x y : Chair) → MayLead policy bsp → j ≢ bsp → chair_home policy j x ≡ chair_home policy j y
+home_same Elected bsp j x y lead n = refl
+home_same (Fixed b) bsp j x y lead n = rw (ne_eqb j b (λ z. n (z ∙ sym lead))) refl
+
+pub rechaired : (d : SetupData) (c : Context) (x : Chair) (s : Scene) (m : Machine) → 1 ≤ c.stage → c.stage ≤ 19 → IsReady d c s m
+    → IsCourse d (record c { chair = x }) m.registrations m.pool
+    → ((j : ℕ) → j < d.processors → j ≢ c.bsp → IsJobOf d (record c { chair = x }) j (member m j).job) → IsReady d (record c { chair = x }) s m
+rechaired d c x s m a b f course jobs =
+    let z = f.sized in
+    let w = f.words in
+    let n = f.session in
+    let y = f.totals in
+    record {
+      platform = f.platform;
+      sized = record { seats = z.seats; pend = z.pend; present = z.present; run = z.run; busy = z.busy; on_present = z.on_present; on_run = z.on_run; on_busy = z.on_busy; members = z.members; held = z.held };
+      words = record { some_bsp = w.some_bsp; no_bsp = w.no_bsp; bsp_before = w.bsp_before; bsp_taken = w.bsp_taken; bsp_free = w.bsp_free; leads = w.leads; inside_before = w.inside_before; inside = w.inside; inside_after = w.inside_after; insync_before = w.insync_before; insync = w.insync; insync_after = w.insync_after; chair_before = λ u. absurd (omega arith); chair = w.chair; chair_after = λ u. absurd (omega arith); source = w.source; except = w.except; no_session = w.no_session; session = w.session };
+      session = record { bsp = n.bsp; unserved = n.unserved; served = n.served; ungathered = n.ungathered; gathered = n.gathered; unready = n.unready; fresh = n.fresh; expired = n.expired; waited = n.waited; unclosed = n.unclosed; closed = n.closed; unbegun = n.unbegun; undone = n.undone; done = n.done };
+      course = course;
+      chipset = f.chipset;
+      totals = record { counted = y.counted; counter_locked = y.counter_locked; peers = y.peers; run_open = y.run_open; run_reports = y.run_reports; run_reported = y.run_reported; run_answers = y.run_answers; run_answered = y.run_answered; run_ends = y.run_ends; run_ended = y.run_ended };
+      each = λ j l.
+          let h = f.each j l in
+          let g = h.team in
+          record {
+            self = h.self;
+            team = record { team_open = g.team_open; departed_open = g.departed_open; team = g.team; unreleased = g.unreleased; idle_early = g.idle_early; idle_mid = g.idle_mid; idle_after = g.idle_after; unclaimed = g.unclaimed; claimed_so_far = g.claimed_so_far; claimed = g.claimed };
+            leader = h.leader;
+            peer = λ q. let k = h.peer q in record { station = k.station; walking = k.walking; knows = k.knows; gone = k.gone; listed = k.listed; released_so_far = k.released_so_far; released_no_more = k.released_no_more; released = k.released; told = k.told; answered = k.answered; ended = k.ended };
+          };
+      runs = λ j l q. let h = f.runs j l q in record { upto = h.upto; lent = h.lent; so_far = h.so_far; no_more = h.no_more; late = h.late };
+      jobs = jobs;
+      idle = λ j l q. let h = f.idle j l q in record { size = h.size; held = h.held; chair = h.chair ∙ home_same d.policy c.bsp j c.chair x (w.leads a) q };
+      signals = f.signals;
+      busies = f.busies;
+    }
+
+-- the state of serving as the BSP begins to serve this wave, and its first row
+abbrev pub begun_chair : Context → ℕ → Chair
+begun_chair c wave = told_on c.held (begun_session c.bsp wave c.chair)
+
+pub begun_course : (d : SetupData) (c : Context) (wave : ℕ) (m : Machine) → c.stage ≤ begins_from (mode_of d) → IsCourse d c m.registrations m.pool
+    → IsCourse d (record c { chair = begun_chair c wave }) m.registrations m.pool
+begun_course d c wave m st h =
+    let mode = mode_le d in
+    record {
+      setup = h.setup;
+      size = length-replicate {A = JobSeat} c.chair.setup.processors Free ∙ ap (λ (y : SetupData). y.processors) h.setup;
+      registered = λ _. h.registered st;
+      pooled = λ _. h.pooled st;
+      me = λ _. refl;
+      led = λ z. absurd (omega arith);
+      listed = λ z. absurd (omega arith);
+      over = λ z. absurd (omega arith);
+    }
+
+-- the same state at a stage up to the one at which the handlers begin
+pub starting_course : (d : SetupData) (c c' : Context) (m : Machine) → c'.chair ≡ c.chair → c.stage ≤ begins_from (mode_of d) → c'.stage ≤ begins_from (mode_of d)
+    → c'.chair.me ≡ c'.bsp → IsCourse d c m.registrations m.pool → IsCourse d c' m.registrations m.pool
+starting_course d c c' m e a b me h =
+    let mode = mode_le d in
+    record {
+      setup = rw e h.setup;
+      size = rw e h.size;
+      registered = λ _. rw e (h.registered a);
+      pooled = λ _. rw e (h.pooled a);
+      me = λ _. me;
+      led = λ z. absurd (omega arith);
+      listed = λ z. absurd (omega arith);
+      over = λ z. absurd (omega arith);
+    }
+
+pub is_beginning : (d : SetupData) (c to : Context) (wave : ℕ) (m : Machine) → c.stage ≤ begins_from (mode_of d) → IsCourse d c m.registrations m.pool
+    → IsBeginning d (record to { chair = begun_chair c wave; wave = wave }) m.registrations m.pool
+is_beginning d c to wave m st h =
+    let at : SetupData → Registrations → PoolState → Course = λ y g p. beginning wave (walks_of y.waves wave) (at_begin y g p) in
+    let old = c.chair.course.place.state in
+    record {
+      course = ap (λ (y : SetupData). at y old.registrations old.pool) h.setup ∙ ap (λ (y : Registrations). at d y old.pool) (h.registered st) ∙ ap (λ (y : PoolState). at d m.registrations y) (h.pooled st);
+      told = refl;
+    }
+
+-- THE BSP GOES ON
+
+-- a position at which nothing is served
+pub plain : (d : SetupData) (c : Context) (s : Scene) (m : Machine) (lead : Lead) (k x : ℕ) → IsReady d (at_stage c k x) s m → IsAim d (at_stage c k x)
+    → stage_in lead (is_relaxed d.mode) ≡ k → next_of lead ≡ x → (is_traditional lead ≡ 1 → is_relaxed d.mode ≡ false) → part_of lead ≡ 0
+    → (20 ≤ k → chair_home d.policy c.bsp c.chair ≡ Some c.chair) → Reached d c s m lead
+plain d c s m lead k x ready aim st nx trad none early =
+    record { stage = k; next = x; ready = ready; aim = aim; is_stage = st; is_next = nx; traditional = trad; begins = λ z. absurd (omega arith); serves = λ z. absurd (omega arith); collects = λ z. absurd (omega arith); early = early }
+
+-- the world after the BSP's turn
+pub turns : (d : SetupData) (c : Context) (s : Scene) (words : Words) (lying : Lying) (m : Machine) (t t' : Seat) (lead : Lead)
+    → Reached d c (record s { words = words; lying = lying }) m lead → seat s c.bsp ≡ t → station_of t.position ≡ Leading → t'.position ≡ LeadingAt lead
+    → seat_view Leading c.bsp t' ≡ seat_view Leading c.bsp t → IsHolding c lead t'
+    → IsFine d (record { words = words; lying = lying; actors = slice_set (actors_of d s) c.bsp (processor_of d c.bsp t') }) m
+turns d c s words lying m t t' lead r e a b sv h =
+    let some = stage_some lead (is_relaxed d.mode) in
+    let is = r.is_stage in
+    let l : c.bsp < length s.seats = rw r.ready.sized.seats (r.ready.words.some_bsp (omega arith)) in
+    seated d (at_stage c r.stage r.next) s words lying m c.bsp t' l (reaches d c (record s { words = words; lying = lying }) m t t' lead r e a b sv h)
