@@ -1,87 +1,44 @@
 -- Where the BSP stands after a step of serving: it was told its next row, or serving is over, and it collects the jobs that are left or
 -- goes on with its session.
-use Rattle.std.proofs.Common.{ℕ, zero, suc, ◌+◌, ◌-◌, ◌*◌, ◌≡◌, ◌≢◌, ◌<◌, ◌≤◌, ◌⊎◌, inl, inr, arith, Bool, true, false, cond, List, [], ◌∷◌, length, get_or, slice_set, map, Option, Some, None, refl, sym, ap, subst, ⊎_elim, ◌∙◌}
-use Rattle.std.specs.Prelude.{is_some, find}
-use Rattle.std.specs.List.{range_with_len}
+use Rattle.std.proofs.Common.{ℕ, zero, suc, ◌+◌, ◌-◌, ◌*◌, ◌≡◌, ◌≢◌, ◌<◌, ◌≤◌, ◌⊎◌, inl, inr, arith, Bool, true, false, List, [], ◌∷◌, get_or, slice_set, Option, Some, None, refl, sym, ap, subst, ⊎_elim, ◌∙◌}
+use Rattle.std.specs.Prelude.{option_map}
 use Rattle.std.proofs.lemmas.Bool.{cases_eq, cases_lt, lt-ltb}
-use Rattle.std.proofs.lemmas.List.{get_or-set_other, get_or-range_with_len, get_or-map, length-range_with_len}
+use Rattle.std.proofs.lemmas.List.{get_or-set_other}
 use Rattle.smm_base.specs.declared.kinds.HandlerType.{HandlerType}
 use Rattle.cpu_table.specs.Data.{SetupData}
 use Rattle.cpu_table.specs.declared.setup.Mode.{Mode}
 use Rattle.cpu_table.specs.declared.setup.Mode.TheVariants.{Traditional, Relaxed}
+use Rattle.sync_words.specs.declared.label.Label.{Label}
 use Rattle.sync_words.specs.declared.row.Row.TheVariants as row
 use Rattle.sync_words.specs.Steps.{next_below, row_or}
-use Rattle.handler_ops.specs.declared.need.Need.{Need}
+use Rattle.handler_ops.specs.declared.desk.Desk.{Desk}
 use Rattle.handler_ops.specs.declared.need.Need.TheVariants as need
 use Rattle.handler_ops.specs.declared.row.Row.{Row}
 use Rattle.handler_ops.specs.declared.row.Row.TheVariants as told
 use Rattle.handler_ops.specs.Places.{OpenWalk, Begun, HasMore, IsOver}
-use Rattle.handler_ops.specs.Course.{Desks, has_job, is_held}
+use Rattle.handler_ops.specs.Course.{Desks, desk_of, has_job, is_held, need_of}
+use Rattle.handler_ops.specs.Conditions.{IsSound}
 use Rattle.handler_ops.specs.NextRow.{row_of}
-use Rattle.handler_ops.specs.Told.{need_as, handed_as, given_job}
-use Rattle.handler_ops.proofs.Dues.{held_is}
+use Rattle.handler_ops.specs.Told.{need_as, handed_as, given_job, with_job}
 use Rattle.handler_ops.proofs.Rows.{finished}
 use Rattle.handler_ops.proofs.RowSteps.{need_of_row}
 use Rattle.cpu_program.specs.Actors.{Processor, OfProcessor}
-use Rattle.cpu_program.specs.Processors.{is_relaxed, is_at_need, with_need, go_on, after_jobs, desks_held, between}
-use Rattle.rendezvous_machine.specs.Machines.{Machine, member}
+use Rattle.cpu_program.specs.Processors.{is_relaxed, is_at_need, with_need, go_on, after_jobs, owes_job, desks_held, between}
+use Rattle.rendezvous_machine.specs.Machines.{Machine}
 use Rattle.rendezvous_machine.specs.Services.{setting}
-use Rattle.schedule_laws.proofs.Scenes.{Scene, Seat, Lead, AtHandlers, Collecting, LeavingInside, MarkingInsync, Leading as LeadingAt, seat, processor_at, processor_of, actors_of}
-use Rattle.schedule_laws.proofs.Stations.{Leading, station_of, bit, work_of}
+use Rattle.schedule_laws.proofs.Scenes.{Scene, Seat, AtHandlers, Collecting, LeavingInside, MarkingInsync, Position, Leading as LeadingAt, seat, processor_at, actors_of}
+use Rattle.schedule_laws.proofs.Stations.{Leading, station_of, bit}
 use Rattle.schedule_laws.proofs.Leads.{serves_at}
-use Rattle.schedule_laws.proofs.Invariant.{Context, View, IsCpu, IsTeam, IsPeer, IsTotals, IsWords, IsSession, IsCourse, IsReady, IsFine, IsServing, GoesOn, seat_known, seat_view, serves_from, begins_from, mode_of, globe, view}
-use Rattle.schedule_laws.proofs.Frames.{mode_le, seated}
-use Rattle.schedule_laws.proofs.LeadFrames.{at_stage, Reached, IsHolding, reaches}
+use Rattle.schedule_laws.proofs.Invariant.{Context, View, IsCpu, IsWords, IsSession, IsReady, IsFine, IsAim, GoesOn, seat_known, seat_listed, seat_view, mode_of, globe, view}
+use Rattle.schedule_laws.proofs.Facts.{true_false}
+use Rattle.schedule_laws.proofs.LeadFrames.{at_stage, Reached}
 use Rattle.schedule_laws.proofs.ClosedStages.{served_closed, served_closed_run, served_closed_totals}
-use Rattle.schedule_laws.proofs.SessionFrames.{reframe, open_totals, open_run, resting_job, idle_same, no_aim}
-use Rattle.schedule_laws.proofs.HandlerRows.{RowFits}
-
--- the BSP comes to a position
-pub lands : (d : SetupData) (c : Context) (s : Scene) (m : Machine) (t t' : Seat) (lead : Lead) → (r : Reached d c s m lead) → seat s c.bsp ≡ t
-    → station_of t.position ≡ Leading → t'.position ≡ LeadingAt lead → seat_view Leading c.bsp t' ≡ seat_view Leading c.bsp t → IsHolding c lead t' → 1 ≤ r.stage
-    → IsFine d (record { words = s.words; lying = s.lying; actors = slice_set (actors_of d s) c.bsp (processor_of d c.bsp t') }) m
-lands d c s m t t' lead r e a b sv h st =
-    seated d (at_stage c r.stage r.next) s s.words s.lying m c.bsp t' (let z = r.ready.sized in let l = r.ready.words.some_bsp st in omega (arith, z.seats, l))
-    (reaches d c s m t t' lead r e a b sv h)
-
--- THE NEXT OF A RANGE
-
-pub find_some : (test : ℕ → Bool) (from count j : ℕ) → find test (range_with_len from count) ≡ Some j
-    → (from ≤ j) × (j < from + count) × (test j ≡ true) × ((i : ℕ) → from ≤ i → i < j → test i ≡ false)
-find_some test from zero j e = cc
-find_some test from (suc count) j e = at (test from) refl e
-  where
-    some_inj : (a b : ℕ) → Some a ≡ Some b → a ≡ b
-    some_inj a b e = cc
-
-    at : (b : Bool) → test from ≡ b → cond b (Some from) (find test (range_with_len (from + 1) count)) ≡ Some j
-        → (from ≤ j) × (j < from + suc count) × (test j ≡ true) × ((i : ℕ) → from ≤ i → i < j → test i ≡ false)
-    at true h e =
-        let k = some_inj from j e in
-        (omega (arith, k), omega (arith, k), subst (λ (i : ℕ). test i ≡ true) k h, λ i x y. absurd (omega (arith, k, x, y)))
-    at false h e =
-        let k = find_some test (from + 1) count j e in (
-          omega (arith, k.0),
-          omega (arith, k.1),
-          k.2,
-          λ i x y.
-              ⊎_elim
-              (λ (q : i ≡ from). subst (λ (n : ℕ). test n ≡ false) (sym q) h)
-              (λ (q : i ≢ from). k.3 i (omega (arith, x, q)) y)
-              (cases_eq i from),
-        )
-
-pub find_none : (test : ℕ → Bool) (from count : ℕ) → find test (range_with_len from count) ≡ None → (i : ℕ) → from ≤ i → i < from + count → test i ≡ false
-find_none test from zero e i x y = absurd (omega (arith, x, y))
-find_none test from (suc count) e i x y = at (test from) refl e
-  where
-    at : (b : Bool) → test from ≡ b → cond b (Some from) (find test (range_with_len (from + 1) count)) ≡ None → test i ≡ false
-    at true h e = cc
-    at false h e =
-        ⊎_elim
-        (λ (q : i ≡ from). subst (λ (n : ℕ). test n ≡ false) (sym q) h)
-        (λ (q : i ≢ from). find_none test (from + 1) count e i (omega (arith, x, q)) (omega (arith, y)))
-        (cases_eq i from)
+use Rattle.schedule_laws.proofs.SessionFrames.{reframe, open_totals, open_run, resting_job, idle_same, no_aim, turns}
+use Rattle.schedule_laws.proofs.Loops.{Found, found_next}
+use Rattle.schedule_laws.proofs.Counts.{listed_is}
+use Rattle.schedule_laws.proofs.HandlerFits.{PlaceFits}
+use Rattle.schedule_laws.proofs.HandlerPlaces.{serves_is}
+use Rattle.schedule_laws.proofs.HandlerRows.{RowFits, free_no_job}
 
 -- THE STAGE AFTER SERVING
 
@@ -242,3 +199,259 @@ leaves_open d c l x s m relaxed f idle over =
     (λ j k n. open_run c1 c2 j (view s m j) (get_or s.words.run j 0) (omega arith) (omega arith) (f.runs j k n))
     (λ j k n. resting_job d c1 c2 j (view s m j).job (λ y. omega (arith, one, y)) (f.jobs j k n))
     (λ j k n. idle_same d c1 c2 j (seat s j) refl (f.idle j k n))
+
+-- ANOTHER NUMBER OF THE LOOP
+
+-- at the stages of serving the number of the loop bears on nobody
+pub renumbered : (d : SetupData) (c : Context) (k x y : ℕ) (s : Scene) (m : Machine) → k ≢ 10 → k ≢ 11 → k ≢ 15 → k ≢ 16 → k ≢ 17 → k ≢ 18
+    → IsReady d (at_stage c k x) s m → IsReady d (at_stage c k y) s m
+renumbered d c k x y s m n10 n11 n15 n16 n17 n18 f =
+    let z = f.sized in
+    let w = f.words in
+    let n = f.session in
+    let h = f.course in
+    let t = f.totals in
+    record {
+      platform = f.platform;
+      sized = record { seats = z.seats; pend = z.pend; present = z.present; run = z.run; busy = z.busy; on_present = z.on_present; on_run = z.on_run; on_busy = z.on_busy; members = z.members; held = z.held };
+      words = record { some_bsp = w.some_bsp; no_bsp = w.no_bsp; bsp_before = w.bsp_before; bsp_taken = w.bsp_taken; bsp_free = w.bsp_free; leads = w.leads; inside_before = w.inside_before; inside = w.inside; inside_after = w.inside_after; insync_before = w.insync_before; insync = w.insync; insync_after = w.insync_after; chair_before = w.chair_before; chair = w.chair; chair_after = w.chair_after; source = w.source; except = w.except; no_session = w.no_session; session = w.session };
+      session = record { bsp = n.bsp; unserved = n.unserved; served = n.served; ungathered = n.ungathered; gathered = n.gathered; unready = n.unready; fresh = n.fresh; expired = n.expired; waited = n.waited; unclosed = n.unclosed; closed = n.closed; unbegun = n.unbegun; undone = n.undone; done = n.done };
+      course = record { setup = h.setup; size = h.size; registered = h.registered; pooled = h.pooled; me = h.me; led = h.led; listed = h.listed; over = h.over };
+      chipset = f.chipset;
+      totals = record { counted = t.counted; counter_locked = t.counter_locked; peers = t.peers; run_open = t.run_open; run_reports = λ u. absurd (n10 u); run_reported = t.run_reported; run_answers = λ u. absurd (n16 u); run_answered = t.run_answered; run_ends = λ u. absurd (n18 u); run_ended = t.run_ended };
+      each = λ j l.
+          let e = f.each j l in
+          let g = e.team in
+          record {
+            self = e.self;
+            team = record { team_open = g.team_open; departed_open = g.departed_open; team = g.team; unreleased = g.unreleased; idle_early = g.idle_early; idle_mid = g.idle_mid; idle_after = g.idle_after; unclaimed = g.unclaimed; claimed_so_far = λ u. absurd (n11 u); claimed = g.claimed };
+            leader = e.leader;
+            peer = λ q. let p = e.peer q in record { station = p.station; walking = p.walking; knows = p.knows; gone = p.gone; listed = p.listed; released_so_far = λ u. absurd (n15 u); released_no_more = λ u. absurd (n15 u); released = p.released; told = p.told; answered = p.answered; ended = p.ended };
+          };
+      runs = λ j l q. let r = f.runs j l q in record { upto = r.upto; lent = r.lent; so_far = λ u. absurd (n17 u); no_more = λ u. absurd (n17 u); late = r.late };
+      jobs = λ j l q. let i = f.jobs j l q in record { procedure = i.procedure; free = i.free; given = i.given; listed = i.listed };
+      idle = λ j l q. let i = f.idle j l q in record { size = i.size; held = i.held; chair = i.chair };
+      signals = f.signals;
+      busies = f.busies;
+    }
+
+at_serving : (b : Bool) (c : Context) (x y : ℕ) (d : SetupData) (s : Scene) (m : Machine) → IsReady d (at_stage c (serves_at b) x) s m → IsReady d (at_stage c (serves_at b) y) s m
+at_serving true c x y d s m f =
+    renumbered d c 4 x y s m (λ u. omega arith) (λ u. omega arith) (λ u. omega arith) (λ u. omega arith) (λ u. omega arith) (λ u. omega arith) f
+at_serving false c x y d s m f =
+    renumbered d c 13 x y s m (λ u. omega arith) (λ u. omega arith) (λ u. omega arith) (λ u. omega arith) (λ u. omega arith) (λ u. omega arith) f
+
+serving_aim : (b : Bool) (d : SetupData) (c : Context) (x : ℕ) → IsAim d (at_stage c (serves_at b) x)
+serving_aim true d c x = no_aim d c 4 x (λ u. omega arith) (λ u. omega arith) (λ u. omega arith) (λ u. omega arith) (λ u. omega arith) (λ u. absurd (omega arith))
+serving_aim false d c x = no_aim d c 13 x (λ u. omega arith) (λ u. omega arith) (λ u. omega arith) (λ u. omega arith) (λ u. omega arith) (λ u. omega arith)
+
+pub serves_low : (b : Bool) → 4 ≤ serves_at b
+serves_low true = omega arith
+serves_low false = omega arith
+
+pub serves_high : (b : Bool) → serves_at b ≤ 13
+serves_high true = omega arith
+serves_high false = omega arith
+
+-- THE END OF SERVING
+
+-- where no job is owed, none is there
+all_idle : (d : SetupData) (c : Context) (x : ℕ) (s : Scene) (m : Machine) → IsReady d (at_stage c (serves_at (is_relaxed d.mode)) x) s m
+    → ((j : ℕ) → j < d.processors → j ≢ c.bsp → has_job (seat_known c j) ≡ false) → (j : ℕ) → j < d.processors → (view s m j).work ≡ 0
+all_idle d c x s m f owed j l =
+    ⊎_elim
+    (λ (q : j ≡ c.bsp). ((f.each j l).leader q).work)
+    (λ (q : j ≢ c.bsp). (f.jobs j l q).free (serves_is (is_relaxed d.mode)) (owed j l q))
+    (cases_eq j c.bsp)
+
+-- what the BSP's seat keeps meanwhile
+pub record IsLeading (c : Context) (s : Scene) (t : Seat) : Type 0 where
+  pub seat_is : seat s c.bsp ≡ t
+  pub leads : station_of t.position ≡ Leading
+  pub wave : t.wave ≡ c.wave
+  pub blocked : t.blocked ≡ c.blocked
+  pub listed : t.listed ≡ c.listed
+
+abbrev pub serving_processor : SetupData → Context → Seat → Desks → Processor
+serving_processor d c t held = record (processor_at d c.bsp (LeadingAt AtHandlers) t) { chair = Some c.chair; held = held }
+
+module _ (d : SetupData) (c : Context) (x : ℕ) (s : Scene) (m : Machine) (t : Seat) (from : ℕ) (f : IsReady d (at_stage c (serves_at (is_relaxed d.mode)) x) s m) (over : IsOver c.chair.course.place) (at : IsLeading c s t)
+  (own : get_or c.held c.bsp None ≡ get_or t.held c.bsp None) (idle : has_job (seat_known c c.bsp) ≡ false) (before : (j : ℕ) → j < from → j ≢ c.bsp → has_job (seat_known c j) ≡ false) where
+  abbrev after : Processor → Type 0
+  after p = IsFine d (record { words = s.words; lying = s.lying; actors = slice_set (actors_of d s) c.bsp (OfProcessor p) }) m
+
+  sees : (p : Position) (l : List Bool) → seat_view Leading c.bsp (record t { position = p; listed = l; held = c.held; chair = Some c.chair }) ≡ seat_view Leading c.bsp t
+  sees p l = ap (λ (o : Option Desk). record { station = Leading; knows = t.bsp; visits = t.visits; own = o; registers = t.registers; last = t.last }) own
+
+  collects : (j : ℕ) → (from ≤ j) × (j < d.processors) × (has_job (seat_known c j) ≡ true) × ((i : ℕ) → from ≤ i → i < j → has_job (seat_known c i) ≡ false)
+      → after (between (row.CollectJob j) (serving_processor d c t c.held))
+  collects j k =
+      let r : Reached d c s m (Collecting j) = record {
+        stage = serves_at (is_relaxed d.mode);
+        next = j;
+        ready = at_serving (is_relaxed d.mode) c x j d s m f;
+        aim = serving_aim (is_relaxed d.mode) d c j;
+        is_stage = refl;
+        is_next = refl;
+        traditional = λ z. absurd (omega arith);
+        begins = λ z. absurd (omega arith);
+        serves = λ z. absurd (omega arith);
+        collects = λ _. record {
+          over = over;
+          next = k.1;
+          other = λ q. true_false (has_job (seat_known c j)) k.2 (subst (λ (i : ℕ). has_job (seat_known c i) ≡ false) (sym q) idle);
+          owed = k.2;
+          before = λ i l n.
+              ⊎_elim (λ (a : i < from). before i a n) (λ (a : from ≤ i). k.3 i a l) (cases_lt i from);
+        };
+        early = λ z. absurd (let h = serves_high (is_relaxed d.mode) in omega (arith, z, h));
+      } in
+      turns d c s s.words s.lying m t (record t { position = LeadingAt (Collecting j); held = c.held; chair = Some c.chair }) (Collecting j) r at.seat_is at.leads refl (sees (LeadingAt (Collecting j)) t.listed)
+      (record { wave = at.wave; blocked = at.blocked; listed = at.listed; held = refl; chair = refl })
+
+  goes_on_at : (mode : Mode) → d.mode ≡ mode → ((j : ℕ) → j < d.processors → j ≢ c.bsp → has_job (seat_known c j) ≡ false)
+      → after (go_on (after_jobs mode) (serving_processor d c t c.held))
+  goes_on_at Traditional is owed =
+      let trad : is_relaxed d.mode ≡ false = ap is_relaxed is in
+      let ready : IsReady d (at_stage c 14 0) s m =
+      leaves_closed d c x s m trad (subst (λ (b : Bool). IsReady d (at_stage c (serves_at b) x) s m) trad f) (all_idle d c x s m f owed) over in
+      let r : Reached d c s m LeavingInside = record {
+        stage = 14;
+        next = 0;
+        ready = ready;
+        aim = no_aim d c 14 0 (λ u. omega arith) (λ u. omega arith) (λ u. omega arith) (λ u. omega arith) (λ u. omega arith) (λ u. omega arith);
+        is_stage = refl;
+        is_next = refl;
+        traditional = λ z. absurd (omega arith);
+        begins = λ z. absurd (omega arith);
+        serves = λ z. absurd (omega arith);
+        collects = λ z. absurd (omega arith);
+        early = λ z. absurd (omega arith);
+      } in
+      turns d c s s.words s.lying m t (record t { position = LeadingAt LeavingInside; held = c.held; chair = Some c.chair }) LeavingInside r at.seat_is at.leads refl (sees (LeadingAt LeavingInside) t.listed)
+      (record { wave = at.wave; blocked = at.blocked; listed = at.listed; held = refl; chair = refl })
+  goes_on_at Relaxed is owed =
+      let relaxed : is_relaxed d.mode ≡ true = ap is_relaxed is in
+      let l : List Bool = desks_held c.held in
+      let ready : IsReady d (at_stage (listing c l) 8 0) s m =
+      leaves_open d c l x s m relaxed (subst (λ (b : Bool). IsReady d (at_stage c (serves_at b) x) s m) relaxed f) (all_idle d c x s m f owed) over in
+      let r : Reached d (listing c l) s m MarkingInsync = record {
+        stage = 8;
+        next = 0;
+        ready = ready;
+        aim = record {
+          signals = λ z. absurd (omega arith);
+          takes = λ z. absurd (omega arith);
+          releases = λ z. absurd (omega arith);
+          dismisses = λ z. absurd (omega arith);
+          gives = λ z. absurd (omega arith);
+          closes = λ _ _ j k. listed_is c.held j (let few = f.platform.few in omega (arith, k, few));
+          closes_on = λ z. absurd (omega arith);
+        };
+        is_stage = refl;
+        is_next = refl;
+        traditional = λ z. absurd (omega arith);
+        begins = λ z. absurd (omega arith);
+        serves = λ z. absurd (omega arith);
+        collects = λ z. absurd (omega arith);
+        early = λ z. absurd (omega arith);
+      } in
+      turns d (listing c l) s s.words s.lying m t (record t { position = LeadingAt MarkingInsync; listed = l; held = c.held; chair = Some c.chair }) MarkingInsync r at.seat_is at.leads refl (sees (LeadingAt MarkingInsync) l)
+      (record { wave = at.wave; blocked = at.blocked; listed = refl; held = refl; chair = refl })
+
+  -- the jobs that are left are collected, and after them the session goes on
+  pub ended : after (go_on (row_or row.CollectJob (after_jobs d.mode) (next_below d.processors (owes_job (Some c.chair)) from)) (serving_processor d c t c.held))
+  ended = by_found (next_below d.processors (owes_job (Some c.chair)) from) (found_next d.processors (owes_job (Some c.chair)) from)
+    where
+      by_found : (o : Option ℕ) → Found (owes_job (Some c.chair)) from d.processors o → after (go_on (row_or row.CollectJob (after_jobs d.mode) o) (serving_processor d c t c.held))
+      by_found None e =
+          goes_on_at d.mode refl (λ j l n. ⊎_elim (λ (a : j < from). before j a n) (λ (a : from ≤ j). e j a l) (cases_lt j from))
+      by_found (Some j) e = collects j e
+
+-- THE NEXT ROW
+
+pub more_or_over : (kinds : List HandlerType) (walks : List OpenWalk) (b : Option Begun) → HasMore kinds walks b ⊎ (HasMore kinds walks b → ⊥)
+more_or_over [] [] None = inr (λ h. h)
+more_or_over [] [] (Some b) = inl tt
+more_or_over [] (w ∷ ws) b = inl tt
+more_or_over (k ∷ ks) walks b = inl tt
+
+need_or_end : (d : SetupData) (c : Context) (s : Scene) (m : Machine) (r : Row) → RowFits d c s m r → (is_at_need d.processors (need_as r) ≡ true) ⊎ (r ≡ told.Finished)
+need_or_end d c s m told.Finished h = inr refl
+need_or_end d c s m (told.Looking l) h = inl refl
+need_or_end d c s m (told.ClaimingDesk x l) h = inl (lt-ltb x d.processors h.0)
+need_or_end d c s m (told.ClaimingJob x l) h = inl (lt-ltb x d.processors h.0)
+need_or_end d c s m (told.AwaitingJob x) h = inl (lt-ltb x d.processors h)
+need_or_end d c s m (told.Putting x) h = inl (lt-ltb x d.processors h.0)
+need_or_end d c s m (told.Raising x l) h = inl (lt-ltb x d.processors h.0)
+need_or_end d c s m (told.Reading x reg width) h = inl refl
+need_or_end d c s m (told.Writing x reg width v) h = inl refl
+need_or_end d c s m (told.Allocating n) h = inl refl
+need_or_end d c s m (told.Freeing n) h = inl refl
+
+pub no_need : (r : Row) → need_as r ≡ need.Finished → r ≡ told.Finished
+no_need told.Finished h = refl
+no_need (told.Looking l) h = cc
+no_need (told.ClaimingDesk x l) h = cc
+no_need (told.ClaimingJob x l) h = cc
+no_need (told.AwaitingJob x) h = cc
+no_need (told.Putting x) h = cc
+no_need (told.Raising x l) h = cc
+no_need (told.Reading x reg width) h = cc
+no_need (told.Writing x reg width v) h = cc
+no_need (told.Allocating n) h = cc
+no_need (told.Freeing n) h = cc
+
+-- the BSP's own desk gets no job
+handed_own : (d : SetupData) (c : Context) (s : Scene) (m : Machine) (r : Row) → RowFits d c s m r → get_or (handed_as r c.held) c.bsp None ≡ get_or c.held c.bsp None
+handed_own d c s m (told.Raising x l) h =
+    let start = h.4 in
+    subst (λ (k : Label). get_or (given_job x k c.held) c.bsp None ≡ get_or c.held c.bsp None) (sym start.is)
+    (get_or-set_other c.held x c.bsp (option_map (with_job start.job start.procedure start.argument) (desk_of c.held x)) None (λ q. h.1 (sym q)))
+handed_own d c s m _ h = refl
+
+-- What the BSP may count on once its last need was answered: the next row is that of its course.
+pub record IsAnswered (d : SetupData) (c : Context) (s : Scene) (m : Machine) : Type 0 where
+  pub ready : IsReady d (at_stage c (serves_at (is_relaxed d.mode)) 0) s m
+  pub sound : IsSound (setting d c.bsp) (is_held c.held) c.chair.course.place.state
+  pub fits : PlaceFits d c.chair.course.place
+  pub own : seat_listed c c.bsp ≡ seat_known c c.bsp
+  pub row : RowFits d c s m (row_of (setting d c.bsp) c.held c.chair.course)
+  pub told : c.chair.told ≡ row_of (setting d c.bsp) c.held c.chair.course
+
+pub next_told : (d : SetupData) (c : Context) (s : Scene) (m : Machine) (t : Seat) → IsAnswered d c s m → IsLeading c s t → get_or c.held c.bsp None ≡ get_or t.held c.bsp None
+    → IsFine d (record { words = s.words; lying = s.lying; actors = slice_set (actors_of d s) c.bsp (OfProcessor (with_need (is_at_need d.processors (need_as c.chair.told)) (serving_processor d c t (handed_as c.chair.told c.held)))) }) m
+next_told d c s m t a at own =
+    let p = c.chair.course.place in
+    let r : Row = c.chair.told in
+    let fits : RowFits d c s m r = subst (RowFits d c s m) (sym a.told) a.row in
+    let done = finished (setting d c.bsp) c.held c.chair.course in
+    let need_is : need_as r ≡ need_of (setting d c.bsp) c.held c.chair.course = ap need_as a.told ∙ need_of_row (setting d c.bsp) c.held c.chair.course in
+    let P : Bool → Desks → Type 0 = λ (b : Bool) (held : Desks).
+    IsFine d (record { words = s.words; lying = s.lying; actors = slice_set (actors_of d s) c.bsp (OfProcessor (with_need b (serving_processor d c t held))) }) m in
+    ⊎_elim
+    (λ (more : GoesOn p).
+    let some : is_at_need d.processors (need_as r) ≡ true =
+    ⊎_elim (λ (y : is_at_need d.processors (need_as r) ≡ true). y) (λ (y : r ≡ told.Finished). absurd (done.0 (sym need_is ∙ ap need_as y) more)) (need_or_end d c s m r fits) in
+    let reached : Reached d c s m AtHandlers = record {
+      stage = serves_at (is_relaxed d.mode);
+      next = 0;
+      ready = a.ready;
+      aim = serving_aim (is_relaxed d.mode) d c 0;
+      is_stage = refl;
+      is_next = refl;
+      traditional = λ z. absurd (omega arith);
+      begins = λ z. absurd (omega arith);
+      serves = λ _. record { goes_on = more; fits = a.fits; own = a.own; sound = a.sound; told = a.told };
+      collects = λ z. absurd (omega arith);
+      early = λ z. absurd (let h = serves_high (is_relaxed d.mode) in omega (arith, z, h));
+    } in
+    subst (λ (b : Bool). P b (handed_as r c.held)) (sym some)
+    (turns d c s s.words s.lying m t (record t { position = LeadingAt AtHandlers; held = handed_as r c.held; chair = Some c.chair }) AtHandlers reached at.seat_is at.leads refl
+    (ap (λ (o : Option Desk). record { station = Leading; knows = t.bsp; visits = t.visits; own = o; registers = t.registers; last = t.last }) (handed_own d c s m r fits ∙ own))
+    (record { wave = at.wave; blocked = at.blocked; listed = at.listed; held = refl; chair = refl })))
+    (λ (over : GoesOn p → ⊥).
+    let end : r ≡ told.Finished = no_need r (need_is ∙ done.1 over) in
+    subst (λ (y : Row). P (is_at_need d.processors (need_as y)) (handed_as y c.held)) (sym end)
+    (ended d c 0 s m t 0 a.ready over at own (free_no_job (seat_known c c.bsp) (a.sound.idle c.bsp a.sound.mine)) (λ j l. absurd (omega arith))))
+    (more_or_over p.kinds p.walks p.begun)

@@ -27,7 +27,8 @@ use Rattle.rendezvous_laws.proofs.Places.{leads_after, leads_on}
 use Rattle.schedule_laws.proofs.Scenes.{Scene}
 use Rattle.schedule_laws.proofs.Stations.{bit, work_of, work_done}
 use Rattle.schedule_laws.proofs.Leads.{serves_at}
-use Rattle.schedule_laws.proofs.Invariant.{Context, IsReady, IsServing, IsListed, by_done, with_done, seat_known, seat_listed, serves_from, mode_of, first_place}
+use Rattle.schedule_laws.proofs.Invariant.{Context, IsReady, IsListed, GoesOn, by_done, with_done, seat_known, seat_listed, serves_from, mode_of, first_place}
+use Rattle.schedule_laws.proofs.LeadFrames.{at_stage}
 use Rattle.schedule_laws.proofs.HandlerFits.{PlaceFits}
 use Rattle.schedule_laws.proofs.HandlerSteps.{placed, seat_in, IsAlike, Agrees, SeatsBoth, Both, both_go}
 
@@ -79,18 +80,18 @@ pub record IsTied (d : SetupData) (c : Context) (m : Machine) : Type 0 where
   pub listed : (x : ℕ) → x < d.processors → x ≢ c.bsp → seat_listed c x ≡ with_done (member m x).job (seat_known c x)
   pub own : seat_listed c c.bsp ≡ seat_known c c.bsp
 
-pub tied : (d : SetupData) (c : Context) (s : Scene) (m : Machine) → c.stage ≡ serves_from (mode_of d) → IsReady d c s m → IsServing d c → IsTied d c m
-tied d c s m at g v =
-    let le : serves_from (mode_of d) ≤ c.stage = omega (arith, at) in
-    let both = g.course.listed le in
+pub tied : (d : SetupData) (c : Context) (k : ℕ) (s : Scene) (m : Machine) → k ≡ serves_from (mode_of d) → IsReady d (at_stage c k 0) s m → GoesOn c.chair.course.place
+    → seat_listed c c.bsp ≡ seat_known c c.bsp → IsTied d c m
+tied d c k s m at g more own =
+    let both = g.course.listed (omega (arith, at)) in
     record {
-      size = v.sound.size;
-      listed_size = both.size ∙ v.sound.size;
+      size = g.course.size;
+      listed_size = both.size ∙ g.course.size;
       same = both.same;
       free = λ x l n h. (g.jobs x l n).free at h;
       given = λ x l n h. (g.jobs x l n).given at h;
-      listed = λ x l n. (g.jobs x l n).listed at v.goes_on;
-      own = v.own;
+      listed = λ x l n. (g.jobs x l n).listed at more;
+      own = own;
     }
 
 -- a processor whose job wasn't run has the same seat in both

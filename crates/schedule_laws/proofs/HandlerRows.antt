@@ -93,7 +93,7 @@ RowFits d c s m (told.Allocating n) = Unit {0}
 RowFits d c s m (told.Freeing n) = Unit {0}
 
 -- the need of a row is of a processor of the platform
-job_none : (job : Option Job) → work_of job ≡ 0 → job ≡ None
+pub job_none : (job : Option Job) → work_of job ≡ 0 → job ≡ None
 job_none None h = refl
 job_none (Some job) h = absurd (done_some job.done h)
   where
@@ -325,7 +325,7 @@ owner_there n (q ∷ qs) x e = first q refl e (λ y h. owner_there n qs y h)
         → (x < length (q ∷ qs)) × (has_job (seat_in (q ∷ qs) x) ≡ true)
     first p i h f = here p (owes_token n p) refl i (subst (λ (r : Seat). cond (owes_token n r) (Some 0) (option_map suc (owner n qs)) ≡ Some x) i h) f
 
-free_no_job : (q : Seat) → IsFree q → has_job q ≡ false
+pub free_no_job : (q : Seat) → IsFree q → has_job q ≡ false
 free_no_job Free h = refl
 free_no_job (Open j t) h = absurd h
 free_no_job (Done j t x S) h = absurd h

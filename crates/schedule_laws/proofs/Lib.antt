@@ -31,3 +31,5 @@ pub mod GatherLooks
 pub mod Closes
 pub mod Turns
 pub mod HandlerLandings
+pub mod HandlerFrames
+pub mod HandlerLooks
