@@ -33,3 +33,5 @@ pub mod Turns
 pub mod HandlerLandings
 pub mod HandlerFrames
 pub mod HandlerLooks
+pub mod ClosedFrames
+pub mod Locks

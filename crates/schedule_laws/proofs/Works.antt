@@ -37,7 +37,7 @@ pub open_job : (o : Option Job) → work_of o ≡ 1 → IsOpenJob o
 open_job None h = absurd (omega arith)
 open_job (Some job) h = record { job = job; is = refl; undone = undone_done job job.done h }
 
-no_job : (o : Option Job) → work_of o ≡ 0 → o ≡ None
+pub no_job : (o : Option Job) → work_of o ≡ 0 → o ≡ None
 no_job None h = refl
 no_job (Some job) h = absurd (no_done job.done h)
   where
