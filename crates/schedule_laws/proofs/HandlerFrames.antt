@@ -123,7 +123,7 @@ not_here AwaitingEnd h = refl
 not_here ClearingSignal h = refl
 not_here Away h = refl
 
-held_some : (o : Option Desk) → is_some o ≡ true → o ≡ None → ⊥
+pub held_some : (o : Option Desk) → is_some o ≡ true → o ≡ None → ⊥
 held_some o h e = let u = sym h ∙ ap (λ (x : Option Desk). is_some x) e in cc
 
 held_none : (o : Option Desk) (x : Desk) → is_some o ≡ false → o ≡ Some x → ⊥

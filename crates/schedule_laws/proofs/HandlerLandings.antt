@@ -403,7 +403,7 @@ no_need (told.Allocating n) h = cc
 no_need (told.Freeing n) h = cc
 
 -- the BSP's own desk gets no job
-handed_own : (d : SetupData) (c : Context) (s : Scene) (m : Machine) (r : Row) → RowFits d c s m r → get_or (handed_as r c.held) c.bsp None ≡ get_or c.held c.bsp None
+pub handed_own : (d : SetupData) (c : Context) (s : Scene) (m : Machine) (r : Row) → RowFits d c s m r → get_or (handed_as r c.held) c.bsp None ≡ get_or c.held c.bsp None
 handed_own d c s m (told.Raising x l) h =
     let start = h.4 in
     subst (λ (k : Label). get_or (given_job x k c.held) c.bsp None ≡ get_or c.held c.bsp None) (sym start.is)

@@ -200,18 +200,18 @@ module _ (d : SetupData) (c : Context) (s : Scene) (m : Machine) (t : Seat) wher
   pub looking : (l : Label) → IsTold d c s m t (told.Looking l) → RowKept d c s m t (told.Looking l)
   looking l h =
       let a = accepted d c (told.Looking l) s.words.inside c.held l h.serving h.told refl in
-      (refl, says_kept d c s m l h.ready h.serving h.fits a t h.leading h.own)
+      let k = says_kept d c s m l h.ready h.serving h.fits a t h.leading h.own in (refl, k.0, k.1)
 
   pub allocating : (n : ℕ) → IsTold d c s m t (told.Allocating n) → RowKept d c s m t (told.Allocating n)
   allocating n h =
       let r = (allocated n c.chair.course.place.state.pool).0 in
       let a = accepted d c (told.Allocating n) s.words.inside c.held (alloc_label n r) h.serving h.told refl in
-      (refl, says_kept d c s m (alloc_label n r) h.ready h.serving (alloc_says d c m n r) a t h.leading h.own)
+      let k = says_kept d c s m (alloc_label n r) h.ready h.serving (alloc_says d c m n r) a t h.leading h.own in (refl, k.0, k.1)
 
   pub freeing : (n : ℕ) → IsTold d c s m t (told.Freeing n) → RowKept d c s m t (told.Freeing n)
   freeing n h =
       let a = accepted d c (told.Freeing n) s.words.inside c.held _ h.serving h.told refl in
-      (refl, says_kept d c s m _ h.ready h.serving (tt, tt) a t h.leading h.own)
+      let k = says_kept d c s m _ h.ready h.serving (tt, tt) a t h.leading h.own in (refl, k.0, k.1)
 
   -- a claim that doesn't find what it is for
   pub desk_missing : (x : ℕ) (l : Label) → IsTold d c s m t (told.ClaimingDesk x l) → get_or s.words.present x 0 ≢ 1 → RowKept d c s m t (told.ClaimingDesk x l)
@@ -219,11 +219,11 @@ module _ (d : SetupData) (c : Context) (s : Scene) (m : Machine) (t : Seat) wher
       let y : ℕ = get_or s.words.present x 0 in
       let no = ne_eqb y 1 z in
       let a = accepted d c (told.ClaimingDesk x l) y c.held l h.serving h.told (simp no refl) in
-      simp no (refl, says_kept d c s m l h.ready h.serving (h.fits.4 z) a t h.leading h.own)
+      let k = says_kept d c s m l h.ready h.serving (h.fits.4 z) a t h.leading h.own in simp no (refl, k.0, k.1)
 
   pub job_missing : (x : ℕ) (l : Label) → IsTold d c s m t (told.ClaimingJob x l) → get_or s.words.busy x 0 ≢ 2 → RowKept d c s m t (told.ClaimingJob x l)
   job_missing x l h z =
       let y : ℕ = get_or s.words.busy x 0 in
       let no = ne_eqb y 2 z in
       let a = accepted d c (told.ClaimingJob x l) y c.held l h.serving h.told (simp no refl) in
-      simp no (refl, says_kept d c s m l h.ready h.serving (h.fits.2 z) a t h.leading h.own)
+      let k = says_kept d c s m l h.ready h.serving (h.fits.2 z) a t h.leading h.own in simp no (refl, k.0, k.1)

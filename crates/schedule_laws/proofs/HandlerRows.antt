@@ -124,10 +124,10 @@ module _ (d : SetupData) (c : Context) (s : Scene) (m : Machine) (w : IsWatched 
   target_out : (x : ℕ) → nat_lt x d.processors ≡ false → target d m c.bsp x ≡ NoProcessor
   target_out x e = rw e refl
 
-  target_other : (x : ℕ) → x < d.processors → x ≢ c.bsp → target d m c.bsp x ≡ by_job (member m x).job (is_here (member m x).phase)
+  pub target_other : (x : ℕ) → x < d.processors → x ≢ c.bsp → target d m c.bsp x ≡ by_job (member m x).job (is_here (member m x).phase)
   target_other x l n = simp (lt-ltb x d.processors l, ne_eqb x c.bsp n) refl
 
-  target_own : (x : ℕ) → x < d.processors → x ≡ c.bsp → target d m c.bsp x ≡ Image true
+  pub target_own : (x : ℕ) → x < d.processors → x ≡ c.bsp → target d m c.bsp x ≡ Image true
   target_own x l n = simp (lt-ltb x d.processors l, eq-eqb x c.bsp n) refl
 
   -- the label agrees where the job wasn't run

@@ -35,3 +35,8 @@ pub mod HandlerFrames
 pub mod HandlerLooks
 pub mod ClosedFrames
 pub mod Locks
+pub mod HandlerBegins
+pub mod HandlerPuts
+pub mod HandlerClaims
+pub mod HandlerReads
+pub mod Handlers
