@@ -40,3 +40,4 @@ pub mod HandlerPuts
 pub mod HandlerClaims
 pub mod HandlerReads
 pub mod Handlers
+pub mod HandlerRaises
