@@ -1,9 +1,7 @@
 -- Serving begins with its first label.
-use Rattle.std.proofs.Common.{ℕ, zero, suc, ◌+◌, ◌-◌, ◌*◌, ◌≡◌, ◌≢◌, ◌<◌, ◌≤◌, arith, Bool, true, false, List, [], ◌∷◌, length, get_or, slice_set, replicate, Option, Some, None, refl, sym, ap, subst, ⊎_elim, ◌∙◌}
-use Rattle.std.specs.Prelude.{IsSomeAnd, is_some}
-use Rattle.std.proofs.lemmas.Bool.{cases_eq}
-use Rattle.std.proofs.lemmas.List.{get_or-replicate, length-replicate}
-use Rattle.smm_base.specs.declared.kinds.HandlerType.{HandlerType}
+use Rattle.std.proofs.Common.{ℕ, zero, suc, ◌≡◌, ◌<◌, ◌≤◌, arith, Bool, true, false, List, [], ◌∷◌, get_or, slice_set, replicate, Option, Some, None, refl, sym, ap, subst, ◌∙◌}
+use Rattle.std.specs.Prelude.{is_some}
+use Rattle.std.proofs.lemmas.List.{length-replicate}
 use Rattle.smm_base.specs.declared.status.Status.{Status}
 use Rattle.cpu_table.specs.Data.{SetupData}
 use Rattle.cpu_table.specs.declared.setup.Mode.{Mode}
@@ -14,10 +12,10 @@ use Rattle.handler_ops.specs.declared.desk.Job.{Job}
 use Rattle.handler_ops.specs.declared.row.Row.TheVariants as told
 use Rattle.handler_ops.specs.declared.seat.Seat.{Seat as JobSeat}
 use Rattle.handler_ops.specs.declared.seat.Seat.TheVariants.{Free}
-use Rattle.handler_ops.specs.Serving.{Serving, HasOpen}
-use Rattle.handler_ops.specs.Forms.{Event, Own}
-use Rattle.handler_ops.specs.Beginning.{at_begin, program_of, walks_of}
-use Rattle.handler_ops.specs.Places.{Place, place_at}
+use Rattle.handler_ops.specs.Serving.{Serving}
+use Rattle.handler_ops.specs.Forms.{Own}
+use Rattle.handler_ops.specs.Beginning.{at_begin, walks_of}
+use Rattle.handler_ops.specs.Places.{place_at}
 use Rattle.handler_ops.specs.Course.{Course, is_held, has_job}
 use Rattle.handler_ops.specs.Conditions.{IsSound, beginning}
 use Rattle.handler_ops.specs.Sessions.{Session as Chair}
@@ -33,14 +31,14 @@ use Rattle.rendezvous_machine.specs.Services.{setting}
 use Rattle.schedule_laws.proofs.Scenes.{Scene, Seat, BeginningToServe, Leading as LeadingAt, seat, processor_at, actors_of, world_of}
 use Rattle.schedule_laws.proofs.Stations.{bit, work_of, work_done, station_of}
 use Rattle.schedule_laws.proofs.Leads.{begins_at, serves_at}
-use Rattle.schedule_laws.proofs.Invariant.{Context, View, Globe, IsCpu, IsTeam, IsPeer, IsTotals, IsWords, IsSession, IsRunOf, IsReady, IsFine, IsLead, Holds, Kept, KeptAt, with_done, begins_from, serves_from, mode_of, globe, sizes, view}
+use Rattle.schedule_laws.proofs.Invariant.{Context, View, Globe, IsCpu, IsTeam, IsPeer, IsTotals, IsWords, IsSession, IsRunOf, IsReady, IsFine, IsLead, Holds, Kept, KeptAt, with_done, begins_from, globe, view}
 use Rattle.schedule_laws.proofs.Frames.{mode_le, view_is}
 use Rattle.schedule_laws.proofs.LeadFrames.{at_stage, lead_kept}
 use Rattle.schedule_laws.proofs.SessionFrames.{bsp_says, session_map, home_same}
 use Rattle.schedule_laws.proofs.ClosedFrames.{all_reported}
 use Rattle.schedule_laws.proofs.HandlerSteps.{seat_in}
 use Rattle.schedule_laws.proofs.HandlerPlaces.{serves_is}
-use Rattle.schedule_laws.proofs.HandlerLandings.{IsLeading, next_told, serves_low, serves_high}
+use Rattle.schedule_laws.proofs.HandlerLandings.{IsLeading, next_told}
 use Rattle.schedule_laws.proofs.HandlerFrames.{moves_on, answers}
 use Rattle.schedule_laws.proofs.HandlerLooks.{chair_told, told_processor}
 

@@ -1,30 +1,24 @@
 -- What holds at the next context of serving: the desks, the state of serving, the machine's list and its place change.
-use Rattle.std.proofs.Common.{ℕ, zero, suc, ◌+◌, ◌-◌, ◌*◌, ◌≡◌, ◌≢◌, ◌<◌, ◌≤◌, ◌⊎◌, inl, inr, arith, Bool, true, false, List, [], ◌∷◌, length, get_or, Option, Some, None, refl, sym, ap, subst, ⊎_elim, ◌∙◌}
-use Rattle.std.specs.Prelude.{is_some, IsSomeAnd}
+use Rattle.std.proofs.Common.{ℕ, ◌≡◌, ◌≢◌, ◌<◌, ◌≤◌, arith, Bool, true, false, List, length, get_or, Option, Some, None, refl, sym, ap, subst, ⊎_elim, ◌∙◌}
+use Rattle.std.specs.Prelude.{is_some}
 use Rattle.std.proofs.lemmas.Bool.{cases_eq, ne_eqb}
-use Rattle.save_state_map.specs.Images.{ImageContents}
 use Rattle.cpu_table.specs.Data.{SetupData}
 use Rattle.handler_ops.specs.declared.desk.Desk.{Desk}
-use Rattle.handler_ops.specs.declared.desk.Job.{Job}
 use Rattle.handler_ops.specs.Serving as serving
 use Rattle.handler_ops.specs.Forms.{Event}
-use Rattle.handler_ops.specs.Beginning.{program_of}
 use Rattle.handler_ops.specs.Places.{Place}
-use Rattle.handler_ops.specs.Course.{Desks, desk_of, is_held}
+use Rattle.handler_ops.specs.Course.{Desks, is_held}
 use Rattle.handler_ops.specs.Conditions.{IsSound}
 use Rattle.handler_ops.specs.NextRow.{row_of}
 use Rattle.handler_ops.specs.Sessions.{Session as Chair}
 use Rattle.handler_ops.proofs.Dues.{held_is}
 use Rattle.handler_ops.proofs.Rows.{finished}
 use Rattle.handler_ops.proofs.RowSteps.{need_of_row}
-use Rattle.handler_ops.specs.Told.{need_as}
 use Rattle.cpu_program.specs.Processors.{is_relaxed}
-use Rattle.rendezvous_machine.specs.declared.phase.Phase.{Phase}
-use Rattle.rendezvous_machine.specs.declared.phase.Phase.TheVariants.{Here}
 use Rattle.rendezvous_machine.specs.Machines.{Machine, Session, member, is_here}
 use Rattle.rendezvous_machine.specs.Listed.{place_of, place_in, first_serving}
 use Rattle.rendezvous_machine.specs.Services.{setting}
-use Rattle.schedule_laws.proofs.Scenes.{Scene, Seat, seat}
+use Rattle.schedule_laws.proofs.Scenes.{Scene, Seat}
 use Rattle.schedule_laws.proofs.Stations.{Station, AwaitingSmi, SwitchingOff, LookingAtSource, LookingInside, CountingIn, ClaimingChair, AskingForChair, Leading, AwaitingInside, FindingBsp, SignallingBsp, AwaitingInsideAgain, CountingOut, SeekingBsp, Reporting, TellingReport, AwaitingRelease, GivingBack, TellingRelease, AwaitingDismissal, Withdrawing, TellingDismissal, AwaitingEnd, ClearingSignal, Away, here_of, here_of-le, phase_of, work_of}
 use Rattle.schedule_laws.proofs.Stations as stations
 use Rattle.schedule_laws.proofs.Leads.{serves_at}

@@ -1,27 +1,22 @@
 -- The rows of the server that look: a label is said, and nothing changes hands.
-use Rattle.std.proofs.Common.{ℕ, ◌+◌, ◌≡◌, ◌≢◌, ◌<◌, ◌≤◌, ◌⊎◌, inl, inr, arith, Bool, true, false, List, [], ◌∷◌, length, get_or, slice_set, Option, Some, None, Result, Ok, Err, refl, sym, ap, subst, ⊎_elim, ◌∙◌}
+use Rattle.std.proofs.Common.{ℕ, ◌≡◌, ◌≢◌, ◌<◌, ◌≤◌, arith, false, List, length, get_or, slice_set, Option, Some, None, Result, Ok, Err, refl, sym, ap, subst, ◌∙◌}
 use Rattle.std.specs.Prelude.{IsSomeAnd}
-use Rattle.std.proofs.lemmas.Bool.{cases_eq, ne_eqb, eq-eqb, lt-ltb}
-use Rattle.smm_base.specs.Register.{register_number, is_register_number}
-use Rattle.smm_base.specs.declared.status.Status.{Status}
-use Rattle.save_state_map.specs.Images.{ImageContents}
+use Rattle.std.proofs.lemmas.Bool.{ne_eqb}
 use Rattle.cpu_table.specs.Data.{SetupData}
 use Rattle.sync_words.specs.declared.label.Label.{Label}
 use Rattle.sync_words.specs.declared.label.Label.TheVariants as say
 use Rattle.smram_pool.specs.declared.error.PoolError.{PoolError}
 use Rattle.smram_pool.specs.State.{allocated}
-use Rattle.handler_ops.specs.declared.desk.Desk.{Desk}
 use Rattle.handler_ops.specs.declared.row.Row.{Row}
 use Rattle.handler_ops.specs.declared.row.Row.TheVariants as told
 use Rattle.handler_ops.specs.declared.seat.Seat.{Seat as JobSeat}
 use Rattle.handler_ops.specs.Serving.{HasOpen}
-use Rattle.handler_ops.specs.Operations.{register_of}
 use Rattle.handler_ops.specs.Forms.{Own}
 use Rattle.handler_ops.specs.Beginning.{program_of}
 use Rattle.handler_ops.specs.Places.{Place, Accepts, next}
 use Rattle.handler_ops.specs.Stands.{Leads}
-use Rattle.handler_ops.specs.Course.{Course, Desks, Move, Speaks, Step, desk_of, image_in, is_held, has_job, read_of, shown_value, alloc_label, step_of, said, moved}
-use Rattle.handler_ops.specs.Conditions.{IsSound, CameFor}
+use Rattle.handler_ops.specs.Course.{Course, Desks, Move, Speaks, Step, is_held, has_job, alloc_label, step_of, said, moved}
+use Rattle.handler_ops.specs.Conditions.{CameFor}
 use Rattle.handler_ops.specs.NextRow.{row_of}
 use Rattle.handler_ops.specs.Sessions.{Session as Chair}
 use Rattle.handler_ops.specs.Told.{step_as, need_as, handed_as}
@@ -30,20 +25,19 @@ use Rattle.handler_ops.proofs.RowSteps.{step_of_row}
 use Rattle.cpu_program.specs.Actors.{Processor, OfProcessor}
 use Rattle.cpu_program.specs.Processors.{is_relaxed, is_at_need, with_need}
 use Rattle.rendezvous_core.specs.Worlds.{turn, turned}
-use Rattle.rendezvous_machine.specs.Machines.{Machine, Session, member, is_here}
+use Rattle.rendezvous_machine.specs.Machines.{Machine, Session, member}
 use Rattle.rendezvous_machine.specs.Listed.{CanSay, grown}
 use Rattle.rendezvous_machine.specs.Rules.{Rule}
 use Rattle.rendezvous_machine.specs.Effects.{effect, says}
-use Rattle.rendezvous_machine.specs.Services.{setting, Target, Image, by_job, target, ReadShows}
+use Rattle.rendezvous_machine.specs.Services.{setting}
 use Rattle.rendezvous_laws.proofs.Places.{sound_with}
-use Rattle.rendezvous_laws.proofs.Writes.{register_known}
 use Rattle.schedule_laws.proofs.Scenes.{Scene, Seat, seat, actors_of, world_of}
 use Rattle.schedule_laws.proofs.Leads.{serves_at}
-use Rattle.schedule_laws.proofs.Invariant.{Context, IsReady, IsServing, IsFine, Kept, GoesOn, with_done, mode_of, serves_from, begins_from, globe, sizes, view}
+use Rattle.schedule_laws.proofs.Invariant.{Context, IsReady, IsServing, IsFine, Kept, with_done, mode_of, serves_from, begins_from, globe, sizes, view}
 use Rattle.schedule_laws.proofs.Frames.{mode_le}
 use Rattle.schedule_laws.proofs.LeadFrames.{at_stage}
 use Rattle.schedule_laws.proofs.SessionFrames.{bsp_says, session_map}
-use Rattle.schedule_laws.proofs.HandlerSteps.{seat_in, Agrees, SeatsBoth}
+use Rattle.schedule_laws.proofs.HandlerSteps.{seat_in, SeatsBoth}
 use Rattle.schedule_laws.proofs.HandlerPlaces.{IsNext, next_both, alike, tied, serves_is, can_say, led_on}
 use Rattle.schedule_laws.proofs.HandlerSays.{Asks, plain_rule, plain_effect}
 use Rattle.schedule_laws.proofs.HandlerRows.{Says, RowFits}

@@ -1,6 +1,6 @@
 -- While serving goes on: what the place of the machine's list has beside the server's, and what a label of the server makes of both.
-use Rattle.std.proofs.Common.{ℕ, zero, suc, ◌+◌, ◌*◌, ◌-◌, ◌≡◌, ◌≢◌, ◌<◌, ◌≤◌, arith, Bool, true, false, cond, List, [], ◌∷◌, ◌++◌, length, Option, Some, None, refl, sym, ap, subst, ⊎_elim, ◌∙◌}
-use Rattle.std.specs.Prelude.{IsSomeAnd, slice_set, option_map}
+use Rattle.std.proofs.Common.{ℕ, zero, suc, ◌≡◌, ◌≢◌, ◌<◌, ◌≤◌, arith, Bool, true, false, cond, List, [], ◌∷◌, ◌++◌, length, Option, Some, None, refl, sym, ap, subst, ⊎_elim, ◌∙◌}
+use Rattle.std.specs.Prelude.{IsSomeAnd, option_map}
 use Rattle.std.proofs.lemmas.Bool.{cases_eq, cases_lt}
 use Rattle.std.proofs.lemmas.List.{length-set}
 use Rattle.smm_base.specs.declared.status.Status.{Status}
@@ -22,7 +22,7 @@ use Rattle.handler_ops.specs.Course.{has_job}
 use Rattle.handler_ops.proofs.Judging.{begins, follows}
 use Rattle.handler_ops.proofs.Sessions.{stands_along}
 use Rattle.rendezvous_machine.specs.Machines.{Machine, member}
-use Rattle.rendezvous_machine.specs.Listed.{grown, place_by, first_serving}
+use Rattle.rendezvous_machine.specs.Listed.{grown, place_by}
 use Rattle.rendezvous_laws.proofs.Places.{leads_after, leads_on}
 use Rattle.schedule_laws.proofs.Scenes.{Scene}
 use Rattle.schedule_laws.proofs.Stations.{bit, work_of, work_done}
@@ -30,7 +30,7 @@ use Rattle.schedule_laws.proofs.Leads.{serves_at}
 use Rattle.schedule_laws.proofs.Invariant.{Context, IsReady, IsListed, GoesOn, by_done, with_done, seat_known, seat_listed, serves_from, mode_of, first_place}
 use Rattle.schedule_laws.proofs.LeadFrames.{at_stage}
 use Rattle.schedule_laws.proofs.HandlerFits.{PlaceFits}
-use Rattle.schedule_laws.proofs.HandlerSteps.{placed, seat_in, IsAlike, Agrees, SeatsBoth, Both, both_go}
+use Rattle.schedule_laws.proofs.HandlerSteps.{placed, seat_in, IsAlike, Agrees, SeatsBoth, both_go}
 
 pub serves_is : (r : Bool) → serves_at r ≡ serves_from (bit r)
 serves_is true = refl

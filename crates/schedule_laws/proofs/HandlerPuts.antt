@@ -1,22 +1,21 @@
 -- The row at which the server marks that a processor is given a job.
-use Rattle.std.proofs.Common.{ℕ, ◌+◌, ◌≡◌, ◌≢◌, ◌<◌, ◌≤◌, arith, Bool, true, false, List, length, get_or, slice_set, Option, Some, None, refl, sym, ap, subst, ⊎_elim, ◌∙◌}
+use Rattle.std.proofs.Common.{ℕ, ◌≡◌, ◌≢◌, ◌<◌, ◌≤◌, arith, true, get_or, slice_set, Option, None, refl, sym, ap, subst, ⊎_elim, ◌∙◌}
 use Rattle.std.proofs.lemmas.Bool.{cases_eq}
 use Rattle.std.proofs.lemmas.List.{get_or-set_other, get_or-set_same, length-set}
 use Rattle.cpu_table.specs.Data.{SetupData}
 use Rattle.handler_ops.specs.declared.row.Row.TheVariants as told
-use Rattle.handler_ops.specs.Places.{Place}
-use Rattle.handler_ops.specs.Course.{Course, Desks}
+use Rattle.handler_ops.specs.Course.{Course}
 use Rattle.handler_ops.specs.Sessions.{Session as Chair}
 use Rattle.cpu_program.specs.Processors.{is_relaxed}
 use Rattle.rendezvous_machine.specs.Machines.{Machine, Session, member}
 use Rattle.schedule_laws.proofs.Scenes.{Scene, Seat, seat}
 use Rattle.schedule_laws.proofs.Stations.{work_of}
 use Rattle.schedule_laws.proofs.Leads.{serves_at}
-use Rattle.schedule_laws.proofs.Invariant.{Context, IsReady, IsWords, IsBusy, begins_from, serves_from, mode_of, globe, sizes, view}
+use Rattle.schedule_laws.proofs.Invariant.{Context, IsReady, IsWords, IsBusy, begins_from, mode_of, globe, sizes, view}
 use Rattle.schedule_laws.proofs.Frames.{mode_le}
 use Rattle.schedule_laws.proofs.LeadFrames.{at_stage}
 use Rattle.schedule_laws.proofs.HandlerPlaces.{serves_is}
-use Rattle.schedule_laws.proofs.HandlerLandings.{IsLeading, next_told, serves_low, serves_high}
+use Rattle.schedule_laws.proofs.HandlerLandings.{next_told, serves_low, serves_high}
 use Rattle.schedule_laws.proofs.HandlerFrames.{moves_on, words_on, session_on, totals_on, cpu_on, run_on, idle_on, sized_on, seen_of, answers}
 use Rattle.schedule_laws.proofs.HandlerLooks.{IsTold, RowKept, chair_told}
 

@@ -1,13 +1,10 @@
 -- The row at which the server reads the image on a desk that is held.
-use Rattle.std.proofs.Common.{ℕ, ◌≡◌, ◌≢◌, ◌<◌, ◌≤◌, ◌⊎◌, arith, Bool, true, false, get_or, Option, Some, None, refl, sym, ap, subst, ⊎_elim, ◌∙◌}
-use Rattle.std.specs.Prelude.{is_some}
+use Rattle.std.proofs.Common.{ℕ, ◌≡◌, ◌≢◌, ◌<◌, arith, true, get_or, Option, Some, None, refl, sym, ap, subst, ⊎_elim, ◌∙◌}
 use Rattle.std.proofs.lemmas.Bool.{cases_eq}
 use Rattle.smm_base.specs.Register.{register_number}
-use Rattle.smm_base.specs.declared.status.Status.{Status}
 use Rattle.save_state_map.specs.Images.{ImageContents}
 use Rattle.cpu_table.specs.Data.{SetupData}
 use Rattle.sync_words.specs.declared.label.Label.{Label}
-use Rattle.handler_ops.specs.declared.desk.Desk.{Desk}
 use Rattle.handler_ops.specs.declared.desk.Job.{Job}
 use Rattle.save_state_access.specs.Reading.{ReadAnswer}
 use Rattle.handler_ops.specs.declared.row.Row.{Row}
@@ -22,13 +19,12 @@ use Rattle.rendezvous_machine.specs.Services.{setting, Target, Image, by_job, ta
 use Rattle.rendezvous_laws.proofs.Writes.{register_known}
 use Rattle.schedule_laws.proofs.Scenes.{Scene, Seat, seat}
 use Rattle.schedule_laws.proofs.Leads.{serves_at}
-use Rattle.schedule_laws.proofs.Invariant.{Context, View, IsCpu, desk_at, desk_kept, view, view_at}
-use Rattle.schedule_laws.proofs.Stations.{Leading, station_of, out_of, job_of, work_of}
-use Rattle.schedule_laws.proofs.LeadFrames.{at_stage}
+use Rattle.schedule_laws.proofs.Invariant.{Context, View, desk_at, view}
+use Rattle.schedule_laws.proofs.Stations.{station_of, out_of, job_of, work_of}
 use Rattle.schedule_laws.proofs.HandlerSteps.{seat_in}
 use Rattle.schedule_laws.proofs.HandlerPlaces.{agree_at}
 use Rattle.schedule_laws.proofs.HandlerRows.{Says, AtHandOf, IsWatched, target_own, target_other}
-use Rattle.schedule_laws.proofs.HandlerLandings.{serves_low, serves_high}
+use Rattle.schedule_laws.proofs.HandlerLandings.{serves_high}
 use Rattle.schedule_laws.proofs.HandlerFrames.{watched, seen_of, held_some, kept_is}
 use Rattle.schedule_laws.proofs.HandlerLooks.{IsTold, RowKept, accepted, says_kept}
 

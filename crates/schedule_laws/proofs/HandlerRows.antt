@@ -1,13 +1,12 @@
 -- What the row that the server was told says of the world and the machine.
-use Rattle.std.proofs.Common.{ℕ, zero, suc, ◌+◌, ◌≡◌, ◌≢◌, ◌<◌, ◌≤◌, ◌⊎◌, inl, inr, arith, Bool, true, false, cond, List, [], ◌∷◌, length, get_or, Option, Some, None, Result, Ok, Err, refl, sym, ap, subst, ⊎_elim, ◌∙◌}
-use Rattle.std.specs.Prelude.{IsSomeAnd, is_none, is_some, not, ◌&&◌, ◌||◌, ◌==◌, nat_lt, nat_le, if◌then◌else◌, unwrap_or, option_map}
-use Rattle.std.specs.List.{filter, find}
+use Rattle.std.proofs.Common.{ℕ, zero, suc, ◌+◌, ◌≡◌, ◌≢◌, ◌<◌, ◌≤◌, ◌⊎◌, inl, inr, arith, Bool, true, false, cond, List, [], ◌∷◌, length, get_or, Option, Some, None, refl, sym, ap, subst, ⊎_elim, ◌∙◌}
+use Rattle.std.specs.Prelude.{IsSomeAnd, is_none, not, ◌&&◌, ◌||◌, ◌==◌, nat_lt, nat_le, if◌then◌else◌, unwrap_or, option_map}
+use Rattle.std.specs.List.{filter}
 use Rattle.std.proofs.lemmas.Bool.{cases_eq, cases_lt, eq-eqb, ne_eqb, lt-ltb, le-ltb, and_parts, eqb-true}
 use Rattle.smm_base.specs.Register.{register_number, is_register_number}
 use Rattle.smm_base.specs.declared.kinds.HandlerType.{HandlerType}
 use Rattle.smm_base.specs.declared.status.Status.{Status}
-use Rattle.smm_base.specs.declared.status.Status.TheVariants.{Success, InvalidParameter, NotReady}
-use Rattle.save_state_map.specs.Images.{ImageContents}
+use Rattle.smm_base.specs.declared.status.Status.TheVariants.{InvalidParameter, NotReady}
 use Rattle.cpu_table.specs.Data.{SetupData}
 use Rattle.cpu_table.specs.declared.handlers.OpDef.{OpDef}
 use Rattle.cpu_table.specs.declared.handlers.OpDef.TheVariants as op
@@ -16,8 +15,6 @@ use Rattle.sync_words.specs.declared.label.StartRefusal.TheVariants as cause
 use Rattle.sync_words.specs.declared.label.Label.{Label}
 use Rattle.sync_words.specs.declared.label.Label.TheVariants as say
 use Rattle.handler_registry.specs.Registrations.{is_full}
-use Rattle.smram_pool.specs.declared.error.PoolError.{PoolError}
-use Rattle.handler_ops.specs.declared.desk.Desk.{Desk}
 use Rattle.handler_ops.specs.declared.desk.Job.{Job}
 use Rattle.handler_ops.specs.declared.seat.Seat.{Seat}
 use Rattle.handler_ops.specs.declared.seat.Seat.TheVariants.{Free, Open, Done}
@@ -25,25 +22,24 @@ use Rattle.handler_ops.specs.declared.token.Token.{Token}
 use Rattle.handler_ops.specs.declared.reach.Reach.TheVariants.{Outside, AtHand, Working, Elsewhere}
 use Rattle.handler_ops.specs.declared.row.Row.{Row}
 use Rattle.handler_ops.specs.declared.row.Row.TheVariants as told
-use Rattle.handler_ops.specs.Serving.{Serving, HasOpen, IsFree, number, seat, owner, owes_token, state_of, token_of}
+use Rattle.handler_ops.specs.Serving.{Serving, IsFree, number, owner, owes_token, state_of}
 use Rattle.handler_ops.specs.Operations.{register_of, procedure_place}
 use Rattle.handler_ops.specs.Beginning.{program_of}
 use Rattle.handler_ops.specs.Places.{Place}
-use Rattle.handler_ops.specs.Course.{Setting, Desks, Course, Due, Nothing, Saying, Awaiting, Doing, is_held, has_job, has_token, tokens_out, reach, first_cause, read_of, write_of, shown_value, blank, register_label, open_label, read_label, write_label, alloc_label, due}
+use Rattle.handler_ops.specs.Course.{Due, Nothing, Saying, Awaiting, Doing, is_held, has_job, has_token, tokens_out, first_cause, read_of, write_of, shown_value, blank, register_label, open_label, read_label, write_label, due}
 use Rattle.handler_ops.specs.Conditions.{IsSound}
 use Rattle.handler_ops.specs.NextRow.{desk_row, reading_row, writing_row, start_row, starting_row, checking_row, waiting_row, operation_row, due_row, row_of}
-use Rattle.rendezvous_machine.specs.declared.phase.Phase.{Phase}
 use Rattle.rendezvous_machine.specs.Machines.{Machine, member, is_here}
 use Rattle.rendezvous_machine.specs.Listed.{place_of}
 use Rattle.rendezvous_machine.specs.Refusals.{refusal, refusal_of, refusal_due, cause_for, later_cause, or_else, is_open}
-use Rattle.rendezvous_machine.specs.Services.{setting, target, Target, NoProcessor, JobOpen, Image, by_job, ReadShows, WriteShows, Reads, Writes, written}
+use Rattle.rendezvous_machine.specs.Services.{setting, target, Target, NoProcessor, JobOpen, Image, by_job, ReadShows, WriteShows, written}
 use Rattle.rendezvous_laws.proofs.Writes.{register_known}
 use Rattle.schedule_laws.proofs.Scenes.{Scene}
 use Rattle.schedule_laws.proofs.Stations.{work_of, work_done}
 use Rattle.schedule_laws.proofs.Invariant.{Context, by_done, with_done, seat_known}
 use Rattle.schedule_laws.proofs.HandlerFits.{IsOp, IsOfWalk, DueFits, PlaceFits, due_fits}
 use Rattle.schedule_laws.proofs.HandlerSteps.{seat_in, with_seats, Agrees}
-use Rattle.schedule_laws.proofs.HandlerPlaces.{IsTied, agree_at, owner_same}
+use Rattle.schedule_laws.proofs.HandlerPlaces.{IsTied, agree_at}
 use Rattle.schedule_laws.proofs.HandlerSays.{Asks, read_absent, write_status, unwritten}
 
 -- WHAT IS KNOWN OF OTHER PROCESSORS

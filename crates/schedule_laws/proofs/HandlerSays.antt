@@ -1,5 +1,5 @@
 -- What the machine asks of a label that the BSP says as it serves, and what the label changes.
-use Rattle.std.proofs.Common.{ℕ, ◌≡◌, Bool, true, false, List, length, Some, refl, sym, ap, subst, ◌∙◌}
+use Rattle.std.proofs.Common.{ℕ, ◌≡◌, Bool, true, false, List, length, Some, refl, sym, ap, ◌∙◌}
 use Rattle.std.specs.Prelude.{replicate, ◌&&◌, ◌==◌, if◌then◌else◌}
 use Rattle.std.proofs.lemmas.List.{set-get_or}
 use Rattle.smm_base.specs.Register.{register_number}

@@ -1,6 +1,6 @@
 -- A label that the server's place takes is taken by the place that has some of the jobs run already, where the seats that the label goes
 -- by are the same in both; and the places after it differ in the jobs alone.
-use Rattle.std.proofs.Common.{◌≡◌, ℕ, zero, suc, ◌<◌, Bool, true, false, arith, List, [], ◌∷◌, length, Option, Some, None, refl, sym, ap, subst, ◌∙◌}
+use Rattle.std.proofs.Common.{◌≡◌, ℕ, zero, suc, ◌<◌, Bool, true, false, List, [], ◌∷◌, length, Option, Some, None, refl, sym, ap, subst, ◌∙◌}
 use Rattle.std.specs.Prelude.{◌==◌, slice_set, slice_index_or}
 use Rattle.std.specs.List.{find}
 use Rattle.smm_base.specs.declared.kinds.HandlerType.{HandlerType}
@@ -24,8 +24,8 @@ use Rattle.handler_ops.specs.declared.seat.Seat.TheVariants.{Free, Open, Done}
 use Rattle.handler_ops.specs.declared.token.Token.{Token}
 use Rattle.handler_ops.specs.declared.token.TokenState.{TokenState}
 use Rattle.handler_ops.specs.Serving.{Serving, IsFree, IsDone, IsOutOn, HasEnded, number, put_on, dropped, collected, put_result, owner, state_of, token_of, with_token}
-use Rattle.handler_ops.specs.Operations.{Fits, after, Collects, ReadShows, WriteShows, CheckShows, WaitShows, RegisterShows, register_on, drop_on, AllocShows, Starts}
-use Rattle.handler_ops.specs.Forms.{Program, Own, operations_of, status_of, by_left, by_turn, by_collect, turn_of}
+use Rattle.handler_ops.specs.Operations.{Fits, after, Collects, ReadShows, WriteShows, CheckShows, WaitShows, RegisterShows, register_on, drop_on, Starts}
+use Rattle.handler_ops.specs.Forms.{Own, status_of, by_left, by_turn, by_collect, turn_of}
 use Rattle.handler_ops.specs.Beginning.{program_of}
 use Rattle.handler_ops.specs.Places.{Call, OpenWalk, Begun, First, Started, Awaited, Place, one_less, levels_left, at_left, at_turn, at_collect, place_at, place_begun, begun_by, MayOperate, after_operating, with_walk, MayOpen, MayDo, after_doing, MayTurn, after_turn, MayInCall, after_in_call, MayInWalk, after_in_walk, MayInWalks, after_in_walks, MayBegun, after_begun, Accepts, next}
 use Rattle.schedule_laws.proofs.HandlerFits.{IsOp, AreOps, CallFits, WalksFit, BegunFits, PlaceFits, ops_fit, first_op}

@@ -1,9 +1,8 @@
 -- The turns of the BSP while it serves, row by row; those rows that aren't proved yet are asked for.
-use Rattle.std.proofs.Common.{ℕ, ◌≡◌, ◌≢◌, ◌<◌, arith, Option, Some, get_or, None, refl, sym, ap, subst, ⊎_elim, ◌∙◌}
+use Rattle.std.proofs.Common.{ℕ, ◌≡◌, ◌≢◌, ◌<◌, arith, Some, get_or, None, refl, sym, ap, subst, ⊎_elim, ◌∙◌}
 use Rattle.std.proofs.lemmas.Bool.{cases_eq}
 use Rattle.cpu_table.specs.Data.{SetupData}
 use Rattle.sync_words.specs.declared.label.Label.{Label}
-use Rattle.handler_ops.specs.declared.desk.Desk.{Desk}
 use Rattle.handler_ops.specs.declared.row.Row.{Row}
 use Rattle.handler_ops.specs.declared.row.Row.TheVariants as told
 use Rattle.handler_ops.specs.Course.{Desks}
@@ -16,20 +15,20 @@ use Rattle.rendezvous_machine.specs.Machines.{Machine}
 use Rattle.schedule_laws.proofs.Scenes.{Scene, Seat, AtHandlers, Leading as LeadingAt, seat, processor_at, world_of}
 use Rattle.schedule_laws.proofs.Stations.{station_of}
 use Rattle.schedule_laws.proofs.Leads.{serves_at}
-use Rattle.schedule_laws.proofs.Invariant.{Context, IsLead, IsServing, Holds, Kept, KeptAt, begins_from, serves_from, mode_of}
+use Rattle.schedule_laws.proofs.Invariant.{Context, IsLead, IsServing, Holds, Kept, KeptAt}
 use Rattle.schedule_laws.proofs.Frames.{stays, mode_le}
 use Rattle.schedule_laws.proofs.LeadFrames.{at_stage, lead_kept}
 use Rattle.schedule_laws.proofs.HandlerPlaces.{serves_is}
 use Rattle.schedule_laws.proofs.HandlerRows.{RowFits, row_fits}
-use Rattle.schedule_laws.proofs.HandlerLandings.{IsLeading, handed_own, serves_high}
+use Rattle.schedule_laws.proofs.HandlerLandings.{handed_own, serves_high}
 use Rattle.schedule_laws.proofs.HandlerFrames.{watched}
 use Rattle.schedule_laws.proofs.HandlerLooks.{IsTold, RowKept, at_row, looking, allocating, freeing, desk_missing, job_missing}
 use Rattle.schedule_laws.proofs.HandlerReads.{reading}
 use Rattle.schedule_laws.proofs.HandlerPuts.{putting}
+use Rattle.schedule_laws.proofs.HandlerClaims.{desk_claimed}
 
--- the rows that are still to be proved: what is there is claimed, a job is given, and an image is written
+-- the rows that are still to be proved: a job that was run is claimed, a job is given, and an image is written
 pub record OwedRows (d : SetupData) : Type 0 where
-  pub desk_claimed : (c : Context) (s : Scene) (m : Machine) (t : Seat) (x : ℕ) (l : Label) → IsTold d c s m t (told.ClaimingDesk x l) → get_or s.words.present x 0 ≡ 1 → RowKept d c s m t (told.ClaimingDesk x l)
   pub job_claimed : (c : Context) (s : Scene) (m : Machine) (t : Seat) (x : ℕ) (l : Label) → IsTold d c s m t (told.ClaimingJob x l) → get_or s.words.busy x 0 ≡ 2 → RowKept d c s m t (told.ClaimingJob x l)
   pub job_awaited : (c : Context) (s : Scene) (m : Machine) (t : Seat) (x : ℕ) → Holds d (at_stage c (serves_at (is_relaxed d.mode)) 0) s m → IsTold d c s m t (told.AwaitingJob x) → RowKept d c s m t (told.AwaitingJob x)
   pub raising : (c : Context) (s : Scene) (m : Machine) (t : Seat) (x : ℕ) (l : Label) → IsTold d c s m t (told.Raising x l) → RowKept d c s m t (told.Raising x l)
@@ -41,7 +40,7 @@ module _ (d : SetupData) (owed : OwedRows d) where
   row_kept c s m t (told.Looking l) k h = looking d c s m t l h
   row_kept c s m t (told.ClaimingDesk x l) k h =
       ⊎_elim
-      (λ (z : get_or s.words.present x 0 ≡ 1). owed.desk_claimed c s m t x l h z)
+      (λ (z : get_or s.words.present x 0 ≡ 1). desk_claimed d c s m t x l h z)
       (λ (z : get_or s.words.present x 0 ≢ 1). desk_missing d c s m t x l h z)
       (cases_eq (get_or s.words.present x 0) 1)
   row_kept c s m t (told.ClaimingJob x l) k h =
