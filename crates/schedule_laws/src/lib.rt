@@ -1,6 +1,3 @@
-// Laws of whole schedules on platforms of any number of processors. They do nothing when they run.
+// On the way to the law of every schedule on platforms of any number of processors: the invariant of the world and the machine,
+// and lemmas that turns keep it. There is no code.
 #![tactic(auto)]
-
-mod rows;
-
-pub use rows::row_laws;
