@@ -3,6 +3,10 @@ pub mod Stations
 pub mod Leads
 pub mod Sums
 pub mod HandlerFits
+pub mod HandlerSteps
+pub mod HandlerPlaces
+pub mod HandlerSays
+pub mod HandlerRows
 pub mod Invariant
 pub mod Frames
 pub mod OwnFrames
@@ -25,6 +29,9 @@ pub mod Loops
 pub mod Counts
 pub mod GatherLooks
 pub mod Closes
+pub mod HandlerLandings
+pub mod HandlerFrames
+pub mod HandlerLooks
 pub mod ClosedFrames
 pub mod ExitWays
 pub mod Served
@@ -33,4 +40,10 @@ pub mod Releases
 pub mod Endings
 pub mod Locks
 pub mod Desks
+pub mod HandlerBegins
+pub mod HandlerPuts
+pub mod HandlerClaims
+pub mod HandlerReads
+pub mod Handlers
+pub mod HandlerRaises
 pub mod Turns

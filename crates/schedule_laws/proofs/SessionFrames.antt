@@ -196,7 +196,7 @@ no_aim d c k x a b e f n g =
 -- THE STATE OF SERVING CHANGES
 
 -- where the BSP has the chair, the others' chairs don't depend on it
-home_same : (policy : Policy) (bsp j : ℕ) (x y : Chair) → MayLead policy bsp → j ≢ bsp → chair_home policy j x ≡ chair_home policy j y
+pub home_same : (policy : Policy) (bsp j : ℕ) (x y : Chair) → MayLead policy bsp → j ≢ bsp → chair_home policy j x ≡ chair_home policy j y
 home_same Elected bsp j x y lead n = refl
 home_same (Fixed b) bsp j x y lead n = rw (ne_eqb j b (λ z. n (z ∙ sym lead))) refl
 

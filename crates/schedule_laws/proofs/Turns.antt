@@ -18,16 +18,17 @@ use Rattle.schedule_laws.proofs.Exits.{leave_inside, await_released, await_dismi
 use Rattle.schedule_laws.proofs.Releases.{release, dismiss}
 use Rattle.schedule_laws.proofs.Endings.{give_chair, leave_insync, unlock_counter}
 use Rattle.schedule_laws.proofs.Schedules.{AllTurnsKept}
+use Rattle.schedule_laws.proofs.HandlerBegins.{begin_to_serve}
+use Rattle.schedule_laws.proofs.Handlers.{OwedRows, at_handlers}
 
 -- a turn of the BSP at this position keeps what holds
 abbrev pub LeadKept : SetupData → Lead → Type 0
 LeadKept d lead =
     (c : Context) (i : ℕ) (s : Scene) (m : Machine) (t : Seat) → Holds d c s m → i < d.processors → seat s i ≡ t → t.position ≡ Leading lead → KeptAt d s m i t (Leading lead)
 
--- the turns that are still to be proved
+-- the turns that are still to be proved: four rows of serving, and the collecting of a job after it
 pub record OwedTurns (d : SetupData) : Type 0 where
-  pub begin_to_serve : LeadKept d BeginningToServe
-  pub at_handlers : LeadKept d AtHandlers
+  pub rows : OwedRows d
   pub collect : (j : ℕ) → LeadKept d (Collecting j)
 
 module _ (d : SetupData) (owed : OwedTurns d) where
@@ -43,8 +44,8 @@ module _ (d : SetupData) (owed : OwedTurns d) where
   lead_kept LockingCounter c i s m t f l e q = lock_counter d c i s m t f l e q
   lead_kept (AwaitingReports left) c i s m t f l e q = await_reports d c i s m t left f l e q
   lead_kept (TakingDesk j) c i s m t f l e q = take_desk d c i s m t j f l e q
-  lead_kept BeginningToServe c i s m t f l e q = owed.begin_to_serve c i s m t f l e q
-  lead_kept AtHandlers c i s m t f l e q = owed.at_handlers c i s m t f l e q
+  lead_kept BeginningToServe c i s m t f l e q = begin_to_serve d c i s m t f l e q
+  lead_kept AtHandlers c i s m t f l e q = at_handlers d owed.rows c i s m t f l e q
   lead_kept (Collecting j) c i s m t f l e q = owed.collect j c i s m t f l e q
   lead_kept LeavingInside c i s m t f l e q = leave_inside d c i s m t f l e q
   lead_kept (Releasing j) c i s m t f l e q = release d c i s m t j f l e q
