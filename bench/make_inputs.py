@@ -58,7 +58,7 @@ def schedule(actors):
 
 
 def large_platform():
-    """A platform file near 1 MiB: 64 handlers of 64 operations and as many causes as fit. Not all of it is built."""
+    """A platform file near 1 MiB: 64 handlers of 64 operations and as many causes as fit."""
     text = platform(64, 64, (8, 8), 8, 1, "".join(handler(i, LAUNCH) for i in range(64)))
     for number in range(4096):
         more = cause(number % 64, number // 64 + 1)
