@@ -21,6 +21,7 @@ use Rattle.exit_handshake.specs.Exit as exit
 use Rattle.exit_handshake.proofs.CloseLemmas.{close_within}
 use Rattle.exit_handshake.proofs.ExitLemmas.{exit_within}
 use Rattle.cpu_table.specs.Data.{SetupData}
+use Rattle.cpu_table.specs.Waves.{arrivals_of}
 use Rattle.handler_ops.specs.declared.desk.Desk.{Desk}
 use Rattle.handler_ops.specs.declared.desk.Job.{Job}
 use Rattle.handler_ops.specs.declared.need.Need.{Need}
@@ -99,7 +100,7 @@ chipset_within : (r : Option Row) (c : Chipset) → IsChipset c → IsChipsetRow
 chipset_within None c h k = tt
 chipset_within (Some row.AnnounceBlocked) c h k = (tt, omega (arith, blocked_few c.setup c.wave h.platform))
 chipset_within (Some row.AnnounceWave) c h k = (tt, (let last = h.last in omega (arith, last, waves_few c.setup h.platform)))
-chipset_within (Some (row.RaiseWave cpu)) c h k = (k, signal_few (slice_index_or (chipset.arrivals_of c.setup.waves c.wave) cpu Absent))
+chipset_within (Some (row.RaiseWave cpu)) c h k = (k, signal_few (slice_index_or (arrivals_of c.setup.waves c.wave) cpu Absent))
 chipset_within (Some (row.WatchSource looks)) c h k = (tt, tt)
 chipset_within (Some row.AwaitServed) c h k = (tt, (omega arith, omega arith))
 chipset_within (Some (row.RaiseOff cpu)) c h k = (k, omega arith)

@@ -7,8 +7,8 @@ use Rattle.std.specs.List.{list_all}
 use Rattle.cpu_table.specs.Data.{SetupData}
 use Rattle.cpu_table.specs.Ranges.{wave_fits, waves_fit, is_between}
 use Rattle.cpu_table.specs.declared.waves.Wave.{Wave}
+use Rattle.cpu_table.specs.Waves.{arrivals_in, arrivals_of, blocked_in, is_blocked}
 use Rattle.cpu_program.specs.Bounds.{IsPlatform}
-use Rattle.cpu_program.specs.Chipsets.{arrivals_in, arrivals_of, blocked_in, is_blocked}
 
 wave_few : (n : ℕ) (waves : List Wave) (i : ℕ) → list_all (wave_fits n) waves ≡ true → length (arrivals_in (slice_get waves i)) ≤ n
 wave_few n [] i h = omega arith

@@ -1,10 +1,10 @@
 -- The chipset, row by row: it announces each wave, sends its interrupts, and waits until it was served; after the last wave it turns
 -- all signals off. The chipset as an actor is the project's own.
-use Rattle.std.specs.Prelude.{ℕ, zero, suc, ◌+◌, ◌==◌, ◌||◌, nat_le, nat_lt, Bool, true, false, if◌then◌else◌, List, [], length, slice_get, slice_index_or, Option, Some, None}
-use Rattle.std.specs.List.{count_by}
+use Rattle.std.specs.Prelude.{ℕ, ◌+◌, ◌==◌, ◌||◌, nat_le, nat_lt, Bool, if◌then◌else◌, List, length, slice_index_or, Option, Some, None}
 use Rattle.cpu_table.specs.declared.waves.Arrival.{Arrival}
 use Rattle.cpu_table.specs.declared.waves.Arrival.TheVariants.{Prompt, Delayed, Blocked, Absent}
 use Rattle.cpu_table.specs.declared.waves.Wave.{Wave}
+use Rattle.cpu_table.specs.Waves.{arrivals_of, blocked_in}
 use Rattle.sync_words.specs.declared.access.Access.TheVariants.{Put, Await, Raise}
 use Rattle.sync_words.specs.declared.event.Want.{Want}
 use Rattle.sync_words.specs.declared.event.Want.TheVariants as want
@@ -15,23 +15,6 @@ use Rattle.sync_words.specs.declared.signal.TheConstants.{DELIVERABLE, HELD, BLO
 use Rattle.sync_words.specs.declared.word.WordId.TheVariants.{Inside, Source, Except, Pend}
 use Rattle.sync_words.specs.Steps.{Taken, says, wants, looks_at}
 use Rattle.cpu_program.specs.Actors.{Chipset}
-
--- what each processor does as the interrupt of this wave comes, the waves counted from 1
-abbrev pub arrivals_in : Option Wave → List Arrival
-arrivals_in None = []
-arrivals_in (Some wave) = wave.status
-
-abbrev pub arrivals_of : List Wave → ℕ → List Arrival
-arrivals_of waves zero = []
-arrivals_of waves (suc n) = arrivals_in (slice_get waves n)
-
-abbrev pub is_blocked : Arrival → Bool
-is_blocked Blocked = true
-is_blocked _ = false
-
--- how many processors the wave blocks
-abbrev pub blocked_in : List Wave → ℕ → ℕ
-blocked_in waves w = count_by is_blocked (arrivals_of waves w)
 
 -- the signal that a processor gets
 abbrev pub signal_for : Arrival → ℕ

@@ -1,7 +1,7 @@
 -- The rows between the parts, and how a processor goes from one part to the next. The rows are the project's own, after EDK II's
 -- PiSmmCpuDxeSmm (`SmiRendezvous`, `BSPHandler`, `APHandler`) in outline.
 use Rattle.std.specs.Prelude.{ℕ, ◌+◌, ◌==◌, ◌&&◌, nat_le, nat_lt, Bool, true, false, if◌then◌else◌, List, length, map, slice_set, Option, Some, None, is_none, option_map}
-use Rattle.std.specs.List.{find, range_with_len}
+use Rattle.std.specs.List.{range_with_len}
 use Rattle.smm_base.specs.declared.kinds.After.TheVariants.{Next}
 use Rattle.smm_base.specs.declared.kinds.Cause.{Cause}
 use Rattle.smm_base.specs.declared.kinds.Policy.{Policy}
@@ -10,7 +10,7 @@ use Rattle.smm_base.specs.declared.status.Status.{Status}
 use Rattle.cpu_regs.specs.Registers.{Registers, loaded}
 use Rattle.cpu_regs.specs.Entering.{saved, after}
 use Rattle.cpu_table.specs.Data.{SetupData}
-use Rattle.cpu_table.specs.declared.setup.CauseAt.{CauseAt}
+use Rattle.cpu_table.specs.Causes.{cause_of}
 use Rattle.cpu_table.specs.declared.setup.Mode.{Mode}
 use Rattle.cpu_table.specs.declared.setup.Mode.TheVariants.{Traditional, Relaxed}
 use Rattle.sync_words.specs.declared.access.Access.TheVariants.{Put, Up, Down, Claim, Await, TakeSmi, ClearSmi}
@@ -70,20 +70,6 @@ can_run_on d (Some job) = can_run d job
 abbrev pub job_to_run : SetupData → Option Desk → Bool
 job_to_run d None = false
 job_to_run d (Some desk) = can_run_on d desk.job
-
--- the cause of a visit is that of the first entry for it; without one there is none
-abbrev pub no_cause : Cause
-no_cause = record { halt = false; io = None }
-
-abbrev pub is_of_visit : ℕ → ℕ → CauseAt → Bool
-is_of_visit cpu visit entry = entry.cpu == cpu && entry.visit == visit
-
-abbrev pub cause_in : Option CauseAt → Cause
-cause_in None = no_cause
-cause_in (Some entry) = entry.cause
-
-abbrev pub cause_of : List CauseAt → ℕ → ℕ → Cause
-cause_of causes cpu visit = cause_in (find (is_of_visit cpu visit) causes)
 
 -- GOING ON
 

@@ -3,8 +3,9 @@ ghost use Rattle.cpu_program.specs.Bounds.{IsChipset, IsPlatform};
 ghost use Rattle.cpu_program.specs.Views.{chipset_in};
 ghost use Rattle.std.specs.List.{count_by};
 ghost use Rattle.cpu_table.specs.Data.{data_of};
+ghost use Rattle.cpu_table.specs.Waves.{arrivals_of, blocked_in, is_blocked};
 ghost use Rattle.sync_words.specs.declared.label.Label.TheVariants.{Silent};
-ghost use Rattle.cpu_program.specs.Chipsets.{after_wave, arrivals_of, blocked_in, is_blocked, off_row, raise_row, signal_for, signal_in, watched_row};
+ghost use Rattle.cpu_program.specs.Chipsets.{after_wave, off_row, raise_row, signal_for, signal_in, watched_row};
 ghost use Rattle.cpu_program.specs.Programs.{first_chipset, want_at_row, taken_at_row};
 
 use crate::processor::wants;

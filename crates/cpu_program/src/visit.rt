@@ -3,7 +3,8 @@ ghost use Rattle.std.specs.List.{find};
 ghost use Rattle.cpu_program.specs.Bounds.{AreOfKind, IsReady, HasImages};
 ghost use Rattle.cpu_program.specs.Views.{processor_in};
 ghost use Rattle.handler_ops.specs.Course.{desk_of};
-ghost use Rattle.cpu_program.specs.Processors.{cause_of, desk_saved, entered, is_of_visit, own_desk, resume_label, resumed};
+ghost use Rattle.cpu_table.specs.Causes.{cause_of, is_of_visit};
+ghost use Rattle.cpu_program.specs.Processors.{desk_saved, entered, own_desk, resume_label, resumed};
 
 use crate::part::Part;
 use crate::processor::Processor;

@@ -1,5 +1,5 @@
 -- The world: the shared words, what lies on them, and where each actor stands; one step of an actor, and the replay of a schedule.
-use Rattle.std.specs.Prelude.{ℕ, ◌+◌, ◌==◌, Bool, true, false, if◌then◌else◌, List, [], ◌∷◌, slice_index_or, slice_get, slice_set, replicate, Option, Some, None}
+use Rattle.std.specs.Prelude.{ℕ, ◌+◌, ◌==◌, Bool, if◌then◌else◌, List, [], ◌∷◌, slice_index_or, slice_get, slice_set, replicate, Option, Some, None}
 use Rattle.std.specs.List.{list_all}
 use Rattle.smm_base.specs.declared.kinds.Policy.{Policy}
 use Rattle.smm_base.specs.declared.kinds.Policy.TheVariants.{Elected, Fixed}
@@ -25,7 +25,7 @@ use Rattle.handler_ops.specs.Sessions.{Session, first_session}
 use Rattle.cpu_program.specs.declared.cargo.Cargo.TheVariants.{Chair}
 use Rattle.cpu_program.specs.declared.cargo.Cargo.{Cargo}
 use Rattle.cpu_program.specs.Actors.{Actor, OfProcessor, OfChipset}
-use Rattle.cpu_program.specs.Programs.{first_processor, first_chipset, want_of, taken, gift_of, given, received, last_of}
+use Rattle.cpu_program.specs.Programs.{first_processor, first_chipset, want_of, is_off, taken, gift_of, given, received, last_of}
 use Rattle.rendezvous_core.specs.declared.stepped.Stepped.{Stepped}
 use Rattle.rendezvous_core.specs.declared.stepped.Stepped.TheVariants as stepped
 
@@ -243,13 +243,6 @@ abbrev pub replay_world : SetupData → List Registers → List ImageContents �
 replay_world d registers images schedule = world_after (start d registers images) schedule
 
 -- every actor is off
-abbrev pub is_off_want : Want → Bool
-is_off_want want.Off = true
-is_off_want (want.Access word access hand) = false
-
-abbrev pub is_off : Actor → Bool
-is_off a = is_off_want (want_of a)
-
 abbrev pub is_complete : World → Bool
 is_complete w = list_all is_off w.actors
 

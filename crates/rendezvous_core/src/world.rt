@@ -2,7 +2,7 @@ ghost use Rattle.std.specs.Prelude.{◌≡◌, ◌<◌, ◌≤◌, ◌++◌, [],
 ghost use Rattle.cpu_table.specs.Data.{data_of};
 ghost use Rattle.rendezvous_core.specs.Platforms.{HasFittingImage};
 ghost use Rattle.rendezvous_core.specs.Starts.{AreImagesOf, first_registers, start_refusal, IsRefusedBy};
-ghost use Rattle.rendezvous_core.specs.Worlds.{start, step, with_event, is_off, is_complete, last_image, MakesNoEvent};
+ghost use Rattle.rendezvous_core.specs.Worlds.{start, step, with_event, is_complete, last_image, MakesNoEvent};
 
 use crate::beginning::first_programs;
 use crate::error::{WorldError, not_relocated};
@@ -17,7 +17,7 @@ use save_state_map::Image;
 use smm_base::NoMemory;
 use std::alloc::Global;
 use std::marker::Model;
-use sync_words::{Event, Want};
+use sync_words::Event;
 
 /// A replay as far as it has come: the world, and the events that led to it. The actors are the processors by number,
 /// and then the chipset.
@@ -142,12 +142,6 @@ impl World {
     pub fn complete(&self) -> bool
         ensures { result ≡ is_complete self.now.world }
     {
-        self.programs.iter().all(|program| is_off(program))
+        self.programs.iter().all(|program| program.is_off())
     }
-}
-
-fn is_off(program: &Program) -> bool
-    ensures { result ≡ is_off program.now }
-{
-    matches!(program.want(), Want::Off)
 }

@@ -5,7 +5,8 @@ use Rattle.cpu_table.specs.Data.{SetupData}
 use Rattle.cpu_table.specs.declared.setup.Mode.{Mode}
 use Rattle.cpu_table.specs.declared.waves.Arrival.{Arrival}
 use Rattle.cpu_table.specs.declared.waves.Arrival.TheVariants.{Prompt, Delayed, Blocked, Absent}
-use Rattle.cpu_program.specs.Chipsets.{arrivals_of, blocked_in, signal_for, signal_in}
+use Rattle.cpu_table.specs.Waves.{arrivals_of, blocked_in}
+use Rattle.cpu_program.specs.Chipsets.{signal_for, signal_in}
 use Rattle.rendezvous_laws.proofs.Stages.{Stage, Herald, AnnouncingBlocked, AnnouncingWave, Raising, Watching, AwaitingServed, RaisingOff, Silenced, Knowledge, Signals, inside_at}
 use Rattle.rendezvous_laws.proofs.Holds.{WavesFit, SignalFits, Holds, inside, away, At, fine}
 

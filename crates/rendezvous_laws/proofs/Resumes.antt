@@ -7,8 +7,8 @@ use Rattle.save_state_map.specs.Images.{ImageContents}
 use Rattle.cpu_regs.specs.Registers.{Registers, loaded}
 use Rattle.cpu_regs.specs.Entering.{saved}
 use Rattle.smm_base.specs.declared.kinds.After.{After}
-use Rattle.rendezvous_machine.specs.Platforms.{cause_of}
 use Rattle.cpu_table.specs.Data.{SetupData}
+use Rattle.cpu_table.specs.Causes.{cause_of}
 use Rattle.sync_words.specs.declared.label.Label.{Label}
 use Rattle.sync_words.specs.declared.label.Label.TheVariants as say
 use Rattle.handler_ops.specs.declared.desk.Job.{Job}

@@ -6,7 +6,6 @@ use Rattle.cpu_table.specs.declared.setup.Mode.{Mode}
 use Rattle.cpu_table.specs.declared.setup.Mode.TheVariants.{Traditional, Relaxed}
 use Rattle.cpu_regs.specs.Registers.{loaded}
 use Rattle.cpu_regs.specs.Entering.{saved}
-use Rattle.rendezvous_machine.specs.Platforms.{cause_of}
 use Rattle.rendezvous_laws.proofs.Stages.{Stage, AwaitingSmi, SwitchingOff, LookingAtSource, LookingInside, CountingIn, BeingElected, MarkingInside, TakingSource, LookingAtExcept, AwaitingOthers, MarkingInsync, LockingCounter, BeginningToServe, AtHandlers, LeavingInside, GivingBsp, LeavingInsync, UnlockingCounter, AwaitingEnd, ClearingSignal, Away, Herald, Knowledge, Signals, machine_at}
 use Rattle.rendezvous_machine.specs.Machines.{AllCollected}
 use Rattle.sync_words.specs.declared.label.Label.TheVariants as say
@@ -19,6 +18,7 @@ use Rattle.rendezvous_laws.proofs.Holds.{alone, first_place, IsBeginning, Rests,
 use Rattle.rendezvous_laws.proofs.Places.{leads_after, is_whole}
 use Rattle.rendezvous_laws.proofs.Servings.{begin_to_serve, serve}
 use Rattle.cpu_table.specs.Ranges.{handlers_fit}
+use Rattle.cpu_table.specs.Causes.{cause_of}
 
 Traditional≢Relaxed : Traditional ≡ Relaxed → ⊥
 Traditional≢Relaxed e = cc

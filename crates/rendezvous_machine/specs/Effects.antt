@@ -6,12 +6,12 @@ use Rattle.save_state_map.specs.Images.{ImageContents}
 use Rattle.cpu_regs.specs.Registers.{loaded}
 use Rattle.cpu_regs.specs.Entering.{saved}
 use Rattle.cpu_table.specs.Data.{SetupData}
+use Rattle.cpu_table.specs.Causes.{cause_of}
 use Rattle.sync_words.specs.declared.label.Label.{Label}
 use Rattle.sync_words.specs.declared.label.Label.TheVariants as say
 use Rattle.handler_ops.specs.declared.desk.Job.{Job}
 use Rattle.handler_ops.specs.Forms.{Event, Own, Ran}
 use Rattle.handler_ops.specs.Procedures.{job_on}
-use Rattle.rendezvous_machine.specs.Platforms.{cause_of}
 use Rattle.rendezvous_machine.specs.Machines.{Machine, Session, Member, Phase, Out, In, Counted, Here, Gone, Off, member, is_counted}
 use Rattle.rendezvous_machine.specs.Listed.{place_of, is_over, grown, grown_unless}
 use Rattle.rendezvous_machine.specs.Services.{written}

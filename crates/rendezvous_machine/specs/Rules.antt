@@ -4,11 +4,12 @@ use Rattle.cpu_regs.specs.Entering.{after}
 use Rattle.cpu_table.specs.Data.{SetupData}
 use Rattle.cpu_table.specs.declared.setup.Mode.{Mode}
 use Rattle.cpu_table.specs.declared.setup.Mode.TheVariants.{Traditional, Relaxed}
+use Rattle.cpu_table.specs.Waves.{blocked_in}
 use Rattle.smm_base.specs.declared.status.Status.{Status}
 use Rattle.sync_words.specs.declared.label.Label.{Label}
 use Rattle.sync_words.specs.declared.label.Label.TheVariants as say
 use Rattle.handler_ops.specs.Procedures.{job_on}
-use Rattle.rendezvous_machine.specs.Platforms.{blocked_in, MayLead}
+use Rattle.rendezvous_machine.specs.Platforms.{MayLead}
 use Rattle.rendezvous_machine.specs.Machines.{Machine, Session, Member, Out, In, Counted, Here, Gone, member, IsPhase, count_of, AllReported, AllReleased, AllDeparted, AllCollected, IsBsp, IsLed, IsClosed, IsAtWork, HasWaited}
 use Rattle.rendezvous_machine.specs.Listed.{CanSay, IsServed}
 use Rattle.rendezvous_machine.specs.Services.{Reads, Writes}

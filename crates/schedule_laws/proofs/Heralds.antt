@@ -6,11 +6,12 @@ use Rattle.std.proofs.lemmas.List.{length-set}
 use Rattle.cpu_table.specs.Data.{SetupData}
 use Rattle.cpu_table.specs.declared.waves.Arrival.{Arrival}
 use Rattle.cpu_table.specs.declared.waves.Arrival.TheVariants.{Prompt, Delayed, Blocked, Absent}
+use Rattle.cpu_table.specs.Waves.{arrivals_of, blocked_in}
 use Rattle.sync_words.specs.declared.row.Row.{Row}
 use Rattle.sync_words.specs.declared.row.Row.TheVariants as row
 use Rattle.handler_ops.specs.declared.desk.Desk.{Desk}
 use Rattle.cpu_program.specs.Actors.{Actor, Chipset, OfChipset}
-use Rattle.cpu_program.specs.Chipsets.{arrivals_of, blocked_in, signal_for, signal_in, is_watched}
+use Rattle.cpu_program.specs.Chipsets.{signal_for, signal_in, is_watched}
 use Rattle.rendezvous_core.specs.Worlds.{World, Words, Lying}
 use Rattle.rendezvous_machine.specs.Machines.{Machine, member}
 use Rattle.schedule_laws.proofs.Scenes.{Scene, Watch, Herald, AnnouncingBlocked, AnnouncingWave, Raising, Watching, AwaitingServed, TurningOff, Silenced, row_at, chipset_at, chipset_of, actors_of, world_of, watch_set_from}

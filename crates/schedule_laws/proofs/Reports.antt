@@ -10,6 +10,7 @@ use Rattle.save_state_map.specs.Images.{ImageContents}
 use Rattle.cpu_regs.specs.Registers.{Registers, loaded}
 use Rattle.cpu_regs.specs.Entering.{saved}
 use Rattle.cpu_table.specs.Data.{SetupData}
+use Rattle.cpu_table.specs.Causes.{cause_of}
 use Rattle.arrival.specs.Entry as entry
 use Rattle.arrival.specs.Entry.{to_elect}
 use Rattle.arrival.specs.Rounds.{is_last_look}
@@ -23,7 +24,6 @@ use Rattle.rendezvous_core.specs.Worlds.{Words}
 use Rattle.rendezvous_machine.specs.declared.phase.Phase.TheVariants.{Out, In, Counted, Here, Gone, Off}
 use Rattle.rendezvous_machine.specs.Machines.{Machine, Member, member}
 use Rattle.rendezvous_machine.specs.Effects.{with_member}
-use Rattle.rendezvous_machine.specs.Platforms.{cause_of}
 use Rattle.schedule_laws.proofs.Scenes.{Scene, Seat, Position, AwaitingSmi, SwitchingOff, LookingAtSource, LookingInside, CountingIn, ClaimingChair, AskingForChair, AwaitingInside, FindingBsp, SignallingBsp, AwaitingInsideAgain, CountingOut, SeekingBsp, Reporting, TellingReport, AwaitingRelease, AwaitingEnd, ClearingSignal, Away, seat, processor_at, actors_of, entering_at}
 use Rattle.schedule_laws.proofs.Stations.{station_of, member_of, work_of}
 use Rattle.schedule_laws.proofs.Invariant.{Context, View, IsCpu, IsIdle, IsRunOf, IsSignal, Holds, IsFine, KeptAt, desk_at, locked, view_at}

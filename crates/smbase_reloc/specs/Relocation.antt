@@ -1,7 +1,6 @@
 -- Relocation: each processor's SMBASE is replaced by that of the layout.
 use Rattle.std.specs.Prelude.{◌≡◌, ℕ, ◌/◌, ◌%◌, ◌^◌, ◌==◌, ◌<◌, Bool, true, false, ◌&&◌, not, if◌then◌else◌, List, map, position, slice_get, slice_set, Option, Some, None, option_map, unwrap_or, IsSomeAnd, All}
 use Rattle.std.specs.List.{enumerate_from}
-use Rattle.smm_base.specs.declared.kinds.Cause.{Cause}
 use Rattle.save_state_map.specs.declared.field.Field.TheVariants.{Revision, Smbase}
 use Rattle.save_state_map.specs.Fields.{field_index}
 use Rattle.cpu_table.specs.declared.setup.Smram.{Smram}
@@ -33,10 +32,6 @@ refusal_at all (Some i) = option_map (refusal_of i) (slice_get all i)
 -- why no processor is relocated: the first that may not be
 abbrev pub relocation_refusal : List Registers → Option RelocError
 relocation_refusal all = refusal_at all (position is_fixed all)
-
--- the interrupt of a relocation comes at no HLT and at no I/O instruction
-abbrev pub no_cause : Cause
-no_cause = record { halt = false; io = None }
 
 -- the registers with another SMBASE
 abbrev pub with_smbase : ℕ → Registers → Registers

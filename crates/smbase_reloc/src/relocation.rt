@@ -2,7 +2,8 @@ ghost use Rattle.std.specs.Prelude.{◌≡◌, ◌^◌, ◌<◌, ◌≤◌, None
 ghost use Rattle.save_state_map.specs.declared.field.Field.TheVariants.{Smbase};
 ghost use Rattle.save_state_map.specs.Images.{with_field};
 ghost use Rattle.cpu_regs.specs.Entering.{saved};
-ghost use Rattle.smbase_reloc.specs.Relocation.{can_relocate, is_at_default, is_fixed, refusal_of, relocation_refusal, with_smbase, relocated, no_cause, IsCause};
+ghost use Rattle.cpu_table.specs.Causes.{no_cause};
+ghost use Rattle.smbase_reloc.specs.Relocation.{can_relocate, is_at_default, is_fixed, refusal_of, relocation_refusal, with_smbase, relocated, IsCause};
 
 use crate::area::DefaultArea;
 use crate::error::RelocError;

@@ -3,7 +3,8 @@ use Rattle.std.proofs.Common.{◌≡◌, sym, ap, ◌∙◌}
 use Rattle.save_state_map.specs.Images.{ImageContents}
 use Rattle.cpu_regs.specs.Registers.{Registers, loaded}
 use Rattle.cpu_regs.specs.Entering.{saved}
-use Rattle.smbase_reloc.specs.Relocation.{no_cause, with_smbase}
+use Rattle.cpu_table.specs.Causes.{no_cause}
+use Rattle.smbase_reloc.specs.Relocation.{with_smbase}
 use Rattle.smbase_reloc.proofs.Registers.{accepts, loaded_with_smbase}
 use Rattle.smbase_reloc.proofs.relocation.relocate_one.Goals as goal
 
