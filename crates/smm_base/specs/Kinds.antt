@@ -1,7 +1,9 @@
 -- What the fields of an I/O cause may be, and how types and ways to go on are printed.
-use Rattle.std.specs.Prelude.{ℕ, Bool, List, ◌==◌, ◌||◌, codes}
+use Rattle.std.specs.Prelude.{ℕ, Bool, List, Option, ◌==◌, ◌||◌, codes, find}
 use Rattle.std.specs.Int.{w128, to_be_bytes}
+use Rattle.std.specs.Str.{bytes_eq}
 use Rattle.uuid.specs.Text.{hyphenated_text, lower}
+use Rattle.smm_base.specs.declared.kinds.TheConstants.{WAYS_ON}
 use Rattle.smm_base.specs.declared.kinds.After.{After}
 use Rattle.smm_base.specs.declared.kinds.After.TheVariants.{Halt, Next, Retry}
 use Rattle.smm_base.specs.declared.kinds.HandlerType.{HandlerType}
@@ -20,6 +22,10 @@ abbrev pub after_text : After → List ℕ
 after_text Halt = codes "halt"
 after_text Next = codes "next"
 after_text Retry = codes "retry"
+
+-- the way to go on with this printed name, where there is one
+abbrev pub after_named : List ℕ → Option After
+after_named text = find (λ after. bytes_eq (after_text after) text) WAYS_ON
 
 -- a GUID's hexadecimal digits in lower case, in groups of 8, 4, 4, 4 and 12 with hyphens between (RFC 9562)
 abbrev pub guid_text : ℕ → List ℕ

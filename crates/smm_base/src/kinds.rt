@@ -1,5 +1,6 @@
-ghost use Rattle.std.specs.Prelude.{◌≡◌, ◌&&◌, IsTrue, Some};
-ghost use Rattle.smm_base.specs.Kinds.{is_io_length, is_io_type, type_text, after_text};
+ghost use Rattle.std.specs.Prelude.{◌≡◌, ◌&&◌, ℕ, List, IsTrue, Some, IfSome};
+ghost use Rattle.smm_base.specs.Kinds.{is_io_length, is_io_type, type_text, after_text, after_named};
+ghost use Rattle.smm_base.specs.declared.kinds.After.{After as AfterSpec};
 
 use std::fmt;
 use uuid::Uuid;
@@ -25,18 +26,46 @@ pub enum After {
     Retry,
 }
 
+/// Each way to go on once.
+pub static WAYS_ON: [After; 3] = [After::Halt, After::Next, After::Retry];
+
+impl After {
+    /// The printed name.
+    pub fn name(self) -> &'static str
+        ensures { result.now ≡ after_text self }
+    {
+        match self {
+            After::Halt => "halt",
+            After::Next => "next",
+            After::Retry => "retry",
+        }
+    }
+
+    /// The way to go on with this printed name, where there is one.
+    pub fn named(text: &str) -> Option<After>
+        ensures { result ≡ after_named text.now }
+    {
+        WAYS_ON.iter().copied().find(|after| after.name() == text)
+    }
+}
+
 /// Writes `halt`, `next` or `retry`.
 impl fmt::Display for After {
     ghost output = { λ after. Some (after_text after) };
 
     fn fmt<W: fmt::Write>(&self, f: &mut fmt::Formatter<W>) -> fmt::Result {
-        f.write_str(match self {
-            After::Halt => "halt",
-            After::Next => "next",
-            After::Retry => "retry",
-        })
+        f.write_str(self.name())
     }
 }
+
+/// The laws of the names of the ways to go on. It does nothing when it runs.
+pub fn after_laws()
+    // What is found has the name.
+    ensures named { (text : List ℕ) → IfSome (after_named text) (λ after. after_text after ≡ text) }
+
+    // Each way is found by its name, so no name stands for two of them.
+    ensures names { (after : AfterSpec) → after_named (after_text after) ≡ Some after }
+{}
 
 /// Which list a handler is registered on and a walk goes over: the root list, or that of one GUID.
 #[derive(Clone, Copy, Debug, PartialEq, Eq)]

@@ -15,12 +15,12 @@ mod store;
 
 pub use dir_store::DirStore;
 pub use gate::{Gate, OpenGate};
-pub use kinds::{After, Cause, HandlerType, IoCause, MapKind, Policy};
+pub use kinds::{After, Cause, HandlerType, IoCause, MapKind, Policy, WAYS_ON, after_laws};
 pub use mem_sink::MemSink;
 pub use mem_store::MemStore;
 pub use memory::NoMemory;
 pub use registers::{REGISTERS, Register, register_laws};
 pub use sink::{Sink, WriteError, write_all};
-pub use status::Status;
+pub use status::{STATUSES, Status, status_laws};
 pub use std_sink::StdSink;
 pub use store::{LoadError, SaveError, Store};

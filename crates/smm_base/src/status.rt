@@ -1,5 +1,6 @@
-ghost use Rattle.std.specs.Prelude.{◌≡◌, Some};
-ghost use Rattle.smm_base.specs.Status.{status_text};
+ghost use Rattle.std.specs.Prelude.{◌≡◌, ℕ, List, Some, IfSome};
+ghost use Rattle.smm_base.specs.Status.{status_text, status_named};
+ghost use Rattle.smm_base.specs.declared.status.Status.{Status as StatusSpec};
 
 use std::fmt;
 
@@ -35,6 +36,22 @@ pub enum Status {
     SourceQuiesced,
 }
 
+/// Each status once.
+pub static STATUSES: [Status; 12] = [
+    Status::Success,
+    Status::InvalidParameter,
+    Status::Unsupported,
+    Status::NotReady,
+    Status::OutOfResources,
+    Status::AccessDenied,
+    Status::NotFound,
+    Status::Timeout,
+    Status::Aborted,
+    Status::InterruptPending,
+    Status::SourcePending,
+    Status::SourceQuiesced,
+];
+
 impl Status {
     /// The printed name: the variant's words in capitals with underscores.
     pub fn name(self) -> &'static str
@@ -55,6 +72,16 @@ impl Status {
             Status::SourceQuiesced => "SOURCE_QUIESCED",
         }
     }
+
+    /// The status with this printed name, where there is one.
+    pub fn named(text: &str) -> Option<Status>
+        ensures { result ≡ status_named text.now }
+    {
+        STATUSES
+            .iter()
+            .copied()
+            .find(|status| status.name() == text)
+    }
 }
 
 /// Writes the name.
@@ -65,3 +92,12 @@ impl fmt::Display for Status {
         f.write_str(self.name())
     }
 }
+
+/// The laws of the statuses' names. It does nothing when it runs.
+pub fn status_laws()
+    // What is found has the name.
+    ensures named { (text : List ℕ) → IfSome (status_named text) (λ status. status_text status ≡ text) }
+
+    // Each status is found by its name, so no name stands for two of them.
+    ensures names { (status : StatusSpec) → status_named (status_text status) ≡ Some status }
+{}

@@ -1,6 +1,7 @@
 -- How an event is spelled. The spelling is the project's own.
-use Rattle.std.specs.Prelude.{ℕ, ◌==◌, List, [], ◌∷◌, ◌++◌, if◌then◌else◌, codes, decimal}
+use Rattle.std.specs.Prelude.{ℕ, ◌==◌, List, [], ◌∷◌, ◌++◌, Option, if◌then◌else◌, codes, decimal, find}
 use Rattle.std.specs.List.{flat_map}
+use Rattle.std.specs.Str.{bytes_eq}
 use Rattle.smm_base.specs.Status.{status_text}
 use Rattle.smm_base.specs.Register.{register_text}
 use Rattle.smm_base.specs.Kinds.{type_text, after_text}
@@ -9,6 +10,7 @@ use Rattle.sync_words.specs.declared.access.Access.TheVariants.{Look, Put, Up, D
 use Rattle.sync_words.specs.declared.event.Event.{Event}
 use Rattle.sync_words.specs.declared.label.Label.{Label}
 use Rattle.sync_words.specs.declared.label.Label.TheVariants.{Silent, Excepted, Wave, Enter, Turn, Arrive, Late, Elect, Served, Gather, Ready, Expire, Quit, Report, Close, Begin, Manage, Deep, Call, Return, Answer, Set, Read, Write, Check, Wait, Alloc, Free, Register, Unregister, Refuse, Start, Run, Collect, Spent, Done, Release, Depart, End, Resume, Off}
+use Rattle.sync_words.specs.declared.label.TheConstants.{CAUSES}
 use Rattle.sync_words.specs.declared.label.StartRefusal.{StartRefusal}
 use Rattle.sync_words.specs.declared.label.StartRefusal.TheVariants.{OutOfRange, BootProcessor, UnknownProcedure, Tokens, Busy, Absent}
 use Rattle.sync_words.specs.declared.word.WordId.{WordId}
@@ -75,6 +77,10 @@ cause_text UnknownProcedure = codes "unknown"
 cause_text Tokens = codes "tokens"
 cause_text Busy = codes "busy"
 cause_text Absent = codes "absent"
+
+-- the cause with this word, where there is one
+abbrev pub cause_named : List ℕ → Option StartRefusal
+cause_named text = find (λ cause. bytes_eq (cause_text cause) text) CAUSES
 
 -- what the event says: a word with its numbers and names, and `-` for nothing
 abbrev pub label_text : Label → List ℕ

@@ -1,5 +1,8 @@
-ghost use Rattle.std.specs.Prelude.{Some};
-ghost use Rattle.sync_words.specs.Texts.{cause_text, label_text};
+ghost use Rattle.std.specs.Prelude.{◌≡◌, ◌||◌, ℕ, List, IsTrue, Some, IfSome};
+ghost use Rattle.std.specs.Fmt.{WritesOnOk};
+ghost use Rattle.sync_words.specs.Groups.{is_of_service, is_of_procedure, is_served};
+ghost use Rattle.sync_words.specs.Texts.{cause_text, cause_named, label_text};
+ghost use Rattle.sync_words.specs.declared.label.StartRefusal.{StartRefusal as StartRefusalSpec};
 
 use smm_base::{After, HandlerType, Register, Status};
 use std::fmt;
@@ -21,21 +24,56 @@ pub enum StartRefusal {
     Absent,
 }
 
-/// Writes the cause's word.
-impl fmt::Display for StartRefusal {
-    ghost output = { λ cause. Some (cause_text cause) };
+/// Each cause once, in the order in which they are tested.
+pub static CAUSES: [StartRefusal; 6] = [
+    StartRefusal::OutOfRange,
+    StartRefusal::BootProcessor,
+    StartRefusal::UnknownProcedure,
+    StartRefusal::Tokens,
+    StartRefusal::Busy,
+    StartRefusal::Absent,
+];
 
-    fn fmt<W: fmt::Write>(&self, f: &mut fmt::Formatter<W>) -> fmt::Result {
-        f.write_str(match self {
+impl StartRefusal {
+    /// The printed word.
+    pub fn name(self) -> &'static str
+        ensures { result.now ≡ cause_text self }
+    {
+        match self {
             StartRefusal::OutOfRange => "range",
             StartRefusal::BootProcessor => "self",
             StartRefusal::UnknownProcedure => "unknown",
             StartRefusal::Tokens => "tokens",
             StartRefusal::Busy => "busy",
             StartRefusal::Absent => "absent",
-        })
+        }
+    }
+
+    /// The cause with this printed word, where there is one.
+    pub fn named(text: &str) -> Option<StartRefusal>
+        ensures { result ≡ cause_named text.now }
+    {
+        CAUSES.iter().copied().find(|cause| cause.name() == text)
     }
 }
+
+/// Writes the cause's word.
+impl fmt::Display for StartRefusal {
+    ghost output = { λ cause. Some (cause_text cause) };
+
+    fn fmt<W: fmt::Write>(&self, f: &mut fmt::Formatter<W>) -> fmt::Result {
+        f.write_str(self.name())
+    }
+}
+
+/// The laws of the causes' words. It does nothing when it runs.
+pub fn cause_laws()
+    // What is found has the word.
+    ensures named { (text : List ℕ) → IfSome (cause_named text) (λ cause. cause_text cause ≡ text) }
+
+    // Each cause is found by its word, so no word stands for two of them.
+    ensures names { (cause : StartRefusalSpec) → cause_named (cause_text cause) ≡ Some cause }
+{}
 
 /// What an event says. A number is that of the label's text; `cpu` is a processor's number, a handler and a
 /// procedure stand by their places in the platform file, jobs are numbered from 1 in the session.
@@ -198,12 +236,70 @@ impl fmt::Display for Label {
             Label::Quit => f.write_str("quit"),
             Label::Report => f.write_str("report"),
             Label::Close(count) => write!(f, "close:{count}"),
+            Label::Release(cpu) => write!(f, "release:{cpu}"),
+            Label::Depart => f.write_str("depart"),
+            Label::End => f.write_str("end"),
+            Label::Resume(after) => write!(f, "resume:{after}"),
+            Label::Off => f.write_str("off"),
+            _ => self.write_served(f),
+        }
+    }
+}
+
+impl Label {
+    // Writes a label of serving: of its walks, its procedures or its services.
+    fn write_served<W: fmt::Write>(&self, f: &mut fmt::Formatter<W>) -> fmt::Result
+        requires { IsTrue (is_served self.now) }
+        ensures { WritesOnOk W.write_str_gives f.old result (label_text self.now) f.new }
+    {
+        match self {
             Label::Begin(wave) => write!(f, "begin:{wave}"),
             Label::Manage(kind) => write!(f, "manage:{kind}"),
             Label::Deep(kind) => write!(f, "deep:{kind}"),
             Label::Call(handler) => write!(f, "call:{handler}"),
             Label::Return { handler, status } => write!(f, "return:{handler}:{status}"),
             Label::Answer(status) => write!(f, "answer:{status}"),
+            Label::Spent => f.write_str("spent"),
+            Label::Done => f.write_str("done"),
+            _ => self.write_procedure(f),
+        }
+    }
+
+    // Writes a label of a procedure that is started, run and waited for, or of a service.
+    fn write_procedure<W: fmt::Write>(&self, f: &mut fmt::Formatter<W>) -> fmt::Result
+        requires { IsTrue (is_of_procedure self.now || is_of_service self.now) }
+        ensures { WritesOnOk W.write_str_gives f.old result (label_text self.now) f.new }
+    {
+        match self {
+            Label::Check { job, status } => write!(f, "check:{job}:{status}"),
+            Label::Wait {
+                job,
+                result_value,
+                status,
+            } => write!(f, "wait:{job}:{result_value}:{status}"),
+            Label::Refuse { cpu, cause } => write!(f, "refuse:{cpu}:{cause}"),
+            Label::Start {
+                cpu,
+                job,
+                procedure,
+                arg,
+            } => write!(f, "start:{cpu}:{job}:{procedure}:{arg}"),
+            Label::Run {
+                job,
+                result_value,
+                status,
+            } => write!(f, "run:{job}:{result_value}:{status}"),
+            Label::Collect(cpu) => write!(f, "collect:{cpu}"),
+            _ => self.write_service(f),
+        }
+    }
+
+    // Writes the label of a service that a handler calls.
+    fn write_service<W: fmt::Write>(&self, f: &mut fmt::Formatter<W>) -> fmt::Result
+        requires { IsTrue (is_of_service self.now) }
+        ensures { WritesOnOk W.write_str_gives f.old result (label_text self.now) f.new }
+    {
+        match self {
             Label::Set { variable, value } => write!(f, "set:{variable}:{value}"),
             Label::Read {
                 cpu,
@@ -219,12 +315,6 @@ impl fmt::Display for Label {
                 value,
                 status,
             } => write!(f, "write:{cpu}:{register}:{width}:{value}:{status}"),
-            Label::Check { job, status } => write!(f, "check:{job}:{status}"),
-            Label::Wait {
-                job,
-                result_value,
-                status,
-            } => write!(f, "wait:{job}:{result_value}:{status}"),
             Label::Alloc {
                 size,
                 place,
@@ -237,26 +327,7 @@ impl fmt::Display for Label {
                 status,
             } => write!(f, "register:{handler}:{serial}:{status}"),
             Label::Unregister { handle, status } => write!(f, "unregister:{handle}:{status}"),
-            Label::Refuse { cpu, cause } => write!(f, "refuse:{cpu}:{cause}"),
-            Label::Start {
-                cpu,
-                job,
-                procedure,
-                arg,
-            } => write!(f, "start:{cpu}:{job}:{procedure}:{arg}"),
-            Label::Run {
-                job,
-                result_value,
-                status,
-            } => write!(f, "run:{job}:{result_value}:{status}"),
-            Label::Collect(cpu) => write!(f, "collect:{cpu}"),
-            Label::Spent => f.write_str("spent"),
-            Label::Done => f.write_str("done"),
-            Label::Release(cpu) => write!(f, "release:{cpu}"),
-            Label::Depart => f.write_str("depart"),
-            Label::End => f.write_str("end"),
-            Label::Resume(after) => write!(f, "resume:{after}"),
-            Label::Off => f.write_str("off"),
+            _ => unreachable!(),
         }
     }
 }

@@ -10,7 +10,7 @@ mod word;
 
 pub use access::{Access, Applied, LOCKED, apply};
 pub use event::{Event, EventLine, Hand, Want};
-pub use label::{Label, StartRefusal};
+pub use label::{CAUSES, Label, StartRefusal, cause_laws};
 pub use row::Row;
 pub use signal::{BLOCKED, DELIVERABLE, HELD, INSIDE, NO_SIGNAL, OFF};
 pub use smm_base::{After, HandlerType, Register, Status};
