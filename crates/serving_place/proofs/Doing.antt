@@ -1,5 +1,5 @@
 -- What is said where no operation is due, and what an operation leaves behind it.
-use Rattle.std.proofs.Common.{◌≡◌, ◌≢◌, ℕ, zero, suc, Bool, List, [], ◌∷◌, Option, Some, None, refl, sym, ap, ◌∙◌, arith}
+use Rattle.std.proofs.Common.{◌≡◌, ◌≢◌, ℕ, zero, suc, List, [], ◌∷◌, Option, Some, None, refl, sym, ap, ◌∙◌, arith}
 use Rattle.std.specs.Prelude.{slice_get, option_map}
 use Rattle.smm_base.specs.declared.kinds.HandlerType.{HandlerType}
 use Rattle.cpu_table.specs.declared.handlers.OpDef.{OpDef}
@@ -17,7 +17,7 @@ use Rattle.serving_place.specs.Forms.{Program, operations_of, turn_of}
 use Rattle.serving_place.specs.Places.{Place, OpenWalk, Begun, Started, Awaited, awaits_after, begun_by, levels_left, with_walk, after_operating, after_doing, after_in_walk, after_in_walks}
 use Rattle.serving_place.specs.Due.{Due, Saying as Says, Doing, due_left, due_turn, due_turns, due_in_walk, due_in_walks}
 use Rattle.serving_place.specs.Progresses.{begun_in}
-use Rattle.serving_place.specs.Sayings.{Saying, Known, Allocation, Release, SayingFits, Fits, operation_due, label_in, known_label}
+use Rattle.serving_place.specs.Sayings.{Saying, Known, Allocation, Release, Fits, operation_due, label_in, known_label}
 use Rattle.serving_place.specs.Moves.{operated, awaited_by, pending_by, manage_kind, entered}
 
 pub known_at : (y : Saying) (s : Serving) (pool : PoolState) → Fits y None s → known_label y ≡ label_in pool y

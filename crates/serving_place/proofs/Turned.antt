@@ -7,7 +7,7 @@ use Rattle.smm_base.specs.declared.status.Status.{Status}
 use Rattle.handler_registry.specs.declared.registration.Registration.{Registration}
 use Rattle.handler_registry.specs.Registrations.{Registrations, next_of, handler_at, IsRegistered}
 use Rattle.smi_manage.specs.declared.running.Running.{Running}
-use Rattle.smi_manage.specs.Answers.{stops, plus}
+use Rattle.smi_manage.specs.Answers.{stops}
 use Rattle.smi_manage.specs.Walks as manage
 use Rattle.serving_place.specs.declared.progress.Walk.{Walk}
 use Rattle.serving_place.specs.declared.progress.Called.{Called}

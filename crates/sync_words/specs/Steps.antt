@@ -14,7 +14,7 @@ use Rattle.sync_words.specs.declared.event.Want.TheVariants as want
 use Rattle.sync_words.specs.declared.label.Label.{Label}
 use Rattle.sync_words.specs.declared.row.Row.{Row}
 use Rattle.sync_words.specs.declared.word.WordId.{WordId}
-use Rattle.sync_words.specs.declared.word.WordId.TheVariants.{Counter, Bsp, Inside, Insync, Source, Except, Pend, Present, Run, Busy}
+use Rattle.sync_words.specs.declared.word.WordId.TheVariants.{Pend, Present, Run, Busy}
 use Rattle.sync_words.specs.Access.{applied, IsWithin}
 
 -- an access to a word at which nothing changes hands

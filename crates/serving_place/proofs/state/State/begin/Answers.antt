@@ -1,7 +1,5 @@
 -- No job was given, and no token.
-use Rattle.std.proofs.Common.{◌≡◌, ◌≤◌, ◌∙◌, length, sym, ap, arith}
-use Rattle.std.specs.Prelude.{List}
-use Rattle.serving_place.specs.Serving.{Seat}
+use Rattle.std.proofs.Common.{◌≡◌, ◌≤◌, ◌∙◌}
 use Rattle.serving_place.proofs.Room.{bounded_begun}
 use Rattle.serving_place.proofs.state.State.begin.Goals as goal
 

@@ -1,6 +1,6 @@
 -- The token of a job that was run is out as before.
 use Rattle.std.proofs.Common.{◌≡◌, ◌∙◌, sym, ap}
-use Rattle.serving_place.specs.Serving.{Serving, Seat, seat, run_at}
+use Rattle.serving_place.specs.Serving.{Serving, seat}
 use Rattle.serving_place.proofs.Room.{bounded_ran}
 use Rattle.serving_place.proofs.state.State.run.Goals as goal
 
