@@ -1,5 +1,5 @@
 -- What changes hands on which word, and who wants nothing.
-use Rattle.std.proofs.Common.{◌≡◌, ◌≢◌, ◌<◌, ℕ, ◌==◌, Bool, true, false, Option, Some, None, refl, sym, ap, subst}
+use Rattle.std.proofs.Common.{◌≡◌, ◌≢◌, ℕ, true, false, Option, Some, None, refl, subst}
 use Rattle.std.specs.Prelude.{◌↔◌, is_none}
 use Rattle.sync_words.specs.declared.event.Want.{Want}
 use Rattle.sync_words.specs.declared.event.Want.TheVariants as want
@@ -17,7 +17,7 @@ use Rattle.handler_ops.specs.Course.{Desks}
 use Rattle.handler_ops.specs.Sessions.{Session}
 use Rattle.handler_ops.specs.Told.{need_as}
 use Rattle.cpu_program.specs.Actors.{Processor, Chipset, Actor, OfProcessor, OfChipset, Part, Between, Entering, Gathering, Closing, Serving, Exiting, Reporting, Off}
-use Rattle.cpu_program.specs.Bounds.{IsRow, IsServing, IsPart, IsProcessor, IsChipsetRow, IsChipset, IsActor}
+use Rattle.cpu_program.specs.Bounds.{IsRow, IsServing, IsPart, IsChipsetRow, IsActor}
 use Rattle.cpu_program.specs.Laws.{MovesOnItsWord}
 use Rattle.cpu_program.specs.Processors.{want_at, want_for, want_of_session, want_in, is_at_need, is_off_part}
 use Rattle.cpu_program.specs.Programs.{want_of, want_at_row, is_off, processors_of}

@@ -16,7 +16,7 @@ use Rattle.save_state_access.specs.Table.{parts_numbered}
 use Rattle.save_state_access.specs.Reading.{first_case, register_at, width_at}
 use Rattle.save_state_access.specs.Writing.{WriteAnswer, write_answer, with_low_bytes, is_written, starts_halt}
 use Rattle.cpu_regs.specs.Registers.{Registers}
-use Rattle.cpu_regs.specs.Entering.{entered, saved}
+use Rattle.cpu_regs.specs.Entering.{entered}
 use Rattle.cpu_regs.proofs.Saving.{kind_stays}
 use Rattle.sync_words.specs.declared.label.Label.{Label}
 use Rattle.sync_words.specs.declared.label.Label.TheVariants as say
@@ -25,7 +25,7 @@ use Rattle.handler_ops.specs.declared.row.Row.{Row}
 use Rattle.handler_ops.specs.declared.row.Row.TheVariants as row
 use Rattle.handler_ops.specs.Course.{Desks, desk_of, low_bytes}
 use Rattle.handler_ops.specs.Told.{with_job, given_job, handed_as}
-use Rattle.handler_ops.specs.Answering.{without_job, taken_off, written_on, written, kept_as}
+use Rattle.handler_ops.specs.Answering.{without_job, taken_off, written_on, kept_as}
 use Rattle.cpu_program.specs.Bounds.{AreOfKind, IsOfKind}
 use Rattle.cpu_program.specs.Processors.{desk_saved}
 

@@ -1,3 +1,4 @@
+mod CauseLemmas
 mod DeskLemmas
 mod WaveLemmas
 mod KindLemmas

@@ -20,8 +20,8 @@ use Rattle.handler_ops.specs.Told.{handed_as}
 use Rattle.handler_ops.specs.Answering.{taken_off, move_as, kept_as, told_on, answered}
 use Rattle.cpu_program.specs.declared.cargo.Cargo.TheVariants.{Desk as DeskCargo, Chair as ChairCargo}
 use Rattle.cpu_program.specs.Actors.{Processor, Actor, OfProcessor, OfChipset, Cargo, Part, Between, Entering, Gathering, Closing, Serving, Exiting, Reporting, Off}
-use Rattle.cpu_program.specs.Processors.{own_desk, go_on, to_jobs, after_source, after_jobs, can_serve, with_need, serve_on, begin_serving, at_row, entered, resumed, taken_serving, taken_at, left_to, known_bsp, want_in, taken_in}
-use Rattle.cpu_program.specs.Hands.{is_kind, desk_left, after_giving, desk_received, chair_received, after_receiving}
+use Rattle.cpu_program.specs.Processors.{own_desk, go_on, to_jobs, after_source, after_jobs, can_serve, with_need, serve_on, begin_serving, at_row, entered, resumed, taken_serving, taken_at, left_to, known_bsp, taken_in}
+use Rattle.cpu_program.specs.Hands.{is_kind, desk_left, after_receiving}
 use Rattle.cpu_program.specs.Programs.{want_of, taken, given_by_hand, given, received_by_hand, received}
 use Rattle.cpu_program.specs.Platforms.{IsProcessorOf}
 

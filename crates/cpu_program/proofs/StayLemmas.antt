@@ -1,12 +1,12 @@
 -- A program keeps its bounds: while things change hands, and after its event.
-use Rattle.std.proofs.Common.{◌≡◌, ◌<◌, ◌≤◌, ◌+◌, ◌-◌, ◌∙◌, ℕ, zero, suc, ◌==◌, ◌&&◌, ◌||◌, Bool, true, false, length, Option, Some, None, refl, ap, subst, sym, arith}
+use Rattle.std.proofs.Common.{◌≡◌, ◌<◌, ◌+◌, ◌-◌, ◌∙◌, ℕ, zero, suc, ◌==◌, ◌&&◌, ◌||◌, Bool, true, false, length, Option, Some, None, refl, ap, subst, sym, arith}
 use Rattle.std.proofs.lemmas.Bool.{and_parts, eqb-true}
 use Rattle.std.proofs.lemmas.List.{length-set, length-replicate}
 use Rattle.std.specs.Prelude.{nat_lt, nat_le, slice_set, option_map, if◌then◌else◌, replicate, is_some, IfSome, IsSome, IsTrue}
 use Rattle.smm_base.specs.declared.kinds.MapKind.{MapKind}
 use Rattle.smm_base.specs.declared.kinds.MapKind.TheVariants.{Ia32, Intel64}
 use Rattle.save_state_map.specs.Images.{ImageContents}
-use Rattle.cpu_regs.specs.Registers.{Registers, loaded}
+use Rattle.cpu_regs.specs.Registers.{Registers}
 use Rattle.cpu_table.specs.Data.{SetupData, data_of}
 use Rattle.cpu_table.specs.declared.setup.Setup.{Setup}
 use Rattle.cpu_table.specs.declared.setup.Mode.{Mode}
@@ -19,7 +19,7 @@ use Rattle.sync_words.specs.declared.label.Label.TheVariants as say
 use Rattle.sync_words.specs.declared.row.Row.{Row}
 use Rattle.sync_words.specs.declared.row.Row.TheVariants as row
 use Rattle.sync_words.specs.declared.signal.TheConstants.{DELIVERABLE}
-use Rattle.sync_words.specs.Steps.{Taken, says, hand_of, found_of, Accepts, next_below, row_or}
+use Rattle.sync_words.specs.Steps.{Taken, says, hand_of, found_of, Accepts, next_below}
 use Rattle.arrival.specs.Entry as entry
 use Rattle.arrival.specs.Gather as gather
 use Rattle.arrival.specs.Report as report
@@ -37,17 +37,16 @@ use Rattle.exit_handshake.proofs.CloseLemmas.{close_stays, close_leaves}
 use Rattle.exit_handshake.proofs.ExitLemmas.{exit_stays, exit_leaves, exit_begins}
 use Rattle.exit_handshake.proofs.NextLemmas.{next_is, row_or_is}
 use Rattle.handler_ops.specs.declared.desk.Desk.{Desk}
-use Rattle.handler_ops.specs.declared.desk.Job.{Job}
-use Rattle.handler_ops.specs.Course.{Desks, desk_of}
+use Rattle.handler_ops.specs.Course.{Desks}
 use Rattle.handler_ops.specs.Sessions.{Session, begun_session}
-use Rattle.handler_ops.specs.Told.{need_as, handed_as}
+use Rattle.handler_ops.specs.Told.{handed_as}
 use Rattle.handler_ops.specs.Answering.{HasTold, taken_off, move_as, kept_as, told_on, answered}
 use Rattle.cpu_program.specs.declared.cargo.Cargo.TheVariants.{Desk as DeskCargo, Chair as ChairCargo}
 use Rattle.cpu_program.specs.Actors.{Processor, Chipset, Actor, OfProcessor, OfChipset, Cargo, Part, Between, Entering, Gathering, Closing, Serving, Exiting, Reporting, Off}
-use Rattle.cpu_program.specs.Bounds.{GoesOn, IsRow, IsServing, IsPart, IsPlatform, IsOfKind, AreOfKind, HasProcessors, IsKept, Keeps, IsProcessor, IsChipsetRow, IsChipset, IsActor}
+use Rattle.cpu_program.specs.Bounds.{IsRow, IsServing, IsPart, IsPlatform, IsOfKind, AreOfKind, HasProcessors, IsKept, Keeps, IsProcessor, IsChipsetRow, IsChipset, IsActor}
 use Rattle.cpu_program.specs.Chipsets as chipset
-use Rattle.cpu_program.specs.Hands.{is_kind, is_giving_back, ran_after, desk_left, after_receiving}
-use Rattle.cpu_program.specs.Processors.{want_in, can_serve, own_desk, desks_held, is_elected, between, go_on, begin_exit, exit_begun, close_begun, to_await, after_source, after_jobs, owes_job, to_jobs, with_need, told_need, serve_on, begin_serving, at_row, taken_serving, next_cause, desk_saved, entered, resumed, work_row, taken_at, left_to, known_bsp, entry_taken, gather_taken, close_taken, exit_taken, report_taken, taken_in, job_to_run}
+use Rattle.cpu_program.specs.Hands.{is_kind, desk_left, after_receiving}
+use Rattle.cpu_program.specs.Processors.{want_in, can_serve, own_desk, desks_held, is_elected, between, go_on, begin_exit, after_source, after_jobs, owes_job, to_jobs, with_need, serve_on, begin_serving, at_row, taken_serving, next_cause, desk_saved, entered, resumed, work_row, taken_at, left_to, known_bsp, entry_taken, gather_taken, close_taken, exit_taken, report_taken, taken_in, job_to_run}
 use Rattle.cpu_program.specs.Programs.{want_of, given_by_hand, given, received_by_hand, received, taken, taken_at_row, first_processor, first_actor, is_processor}
 use Rattle.cpu_program.proofs.KindLemmas.{set_kind, saved_kind, off_kind, off_len, handed_kind, handed_len, answered_kind, answered_len}
 use Rattle.cpu_program.proofs.WantLemmas.{Moves, moves_give, moves_take, chair_moves, held_moves, lt_of}

@@ -1,8 +1,7 @@
 -- What a program wants is within bounds, and stays while things change hands.
-use Rattle.std.proofs.Common.{◌≡◌, ◌<◌, ◌≤◌, ◌+◌, ℕ, zero, suc, ◌==◌, ◌&&◌, Bool, true, false, length, Option, Some, None, refl, subst, sym, arith}
+use Rattle.std.proofs.Common.{◌≡◌, ◌<◌, ◌≤◌, ℕ, ◌==◌, ◌&&◌, Bool, true, false, Option, Some, None, refl, subst, sym, arith}
 use Rattle.std.proofs.lemmas.Bool.{and_from, and_parts, eqb-true}
 use Rattle.std.specs.Prelude.{nat_lt, slice_index_or, slice_set, if◌then◌else◌}
-use Rattle.std.specs.List.{count_by}
 use Rattle.cpu_table.specs.declared.waves.Arrival.{Arrival}
 use Rattle.cpu_table.specs.declared.waves.Arrival.TheVariants.{Prompt, Delayed, Blocked, Absent}
 use Rattle.sync_words.specs.declared.event.Hand.{Hand}
@@ -33,7 +32,7 @@ use Rattle.handler_ops.specs.Answering.{is_at_hand, IsAtHand}
 use Rattle.handler_ops.specs.Sessions.{Session}
 use Rattle.handler_ops.specs.Told.{need_as}
 use Rattle.cpu_program.specs.Actors.{Processor, Chipset, Actor, OfProcessor, OfChipset, Cargo, Part, Between, Entering, Gathering, Closing, Serving, Exiting, Reporting, Off}
-use Rattle.cpu_program.specs.Bounds.{GoesOn, IsRow, IsServing, IsPart, IsPlatform, IsProcessor, IsChipsetRow, IsChipset, IsActor}
+use Rattle.cpu_program.specs.Bounds.{IsRow, IsServing, IsPart, IsProcessor, IsChipsetRow, IsChipset, IsActor}
 use Rattle.cpu_program.specs.Chipsets as chipset
 use Rattle.cpu_program.specs.Processors.{want_at, want_for, want_of_session, want_in, is_at_need, can_serve}
 use Rattle.cpu_program.specs.declared.cargo.Cargo.TheVariants.{Desk as DeskCargo, Chair as ChairCargo}

@@ -1,11 +1,11 @@
 -- Each wave has a status for each processor.
-use Rattle.std.proofs.Common.{◌≡◌, ◌≤◌, ◌<◌, ◌&&◌, ℕ, zero, suc, Bool, true, false, List, [], ◌∷◌, length, Option, Some, None, refl, ap, arith}
+use Rattle.std.proofs.Common.{◌≡◌, ◌≤◌, ℕ, zero, suc, true, List, [], ◌∷◌, length, arith}
 use Rattle.std.proofs.lemmas.Bool.{and_parts, eqb-true}
 use Rattle.std.proofs.lemmas.List.Sums.{count_by-le-length}
 use Rattle.std.specs.Prelude.{slice_get, ◌==◌, nat_le}
 use Rattle.std.specs.List.{list_all}
 use Rattle.cpu_table.specs.Data.{SetupData}
-use Rattle.cpu_table.specs.Ranges.{wave_fits, waves_fit, is_between}
+use Rattle.cpu_table.specs.Ranges.{wave_fits, is_between}
 use Rattle.cpu_table.specs.declared.waves.Wave.{Wave}
 use Rattle.cpu_table.specs.Waves.{arrivals_in, arrivals_of, blocked_in, is_blocked}
 use Rattle.cpu_program.specs.Bounds.{IsPlatform}

@@ -98,14 +98,14 @@ pub record IsProcessor (p : Processor) : Type 0 where
 
 -- the fields that going on rests on
 pub record IsReady (p : ProcessorFields) : Type 0 where
-  pub own : p.me < p.setup.processors
-  pub held : length p.held.desks ≡ p.setup.processors
-  pub chair : IfSome p.chair (HasProcessors p.setup.processors)
+  pub own : p.identity.me < p.identity.setup.processors
+  pub held : length p.held.desks ≡ p.identity.setup.processors
+  pub chair : IfSome p.chair (HasProcessors p.identity.setup.processors)
 
 -- the fields that entering and resuming rest on
 pub record HasImages (p : ProcessorFields) : Type 0 where
-  pub registers : p.registers.kind ≡ p.setup.kind
-  pub kinds : AreOfKind p.setup.kind p.held.desks
+  pub registers : p.registers.kind ≡ p.identity.setup.kind
+  pub kinds : AreOfKind p.identity.setup.kind p.held.desks
 
 -- the rows of the chipset: an interrupt is raised at a processor of the platform, and a look for the wave to be taken is left
 abbrev pub IsChipsetRow : Option Row → Chipset → Type 0

@@ -1,4 +1,5 @@
 pub mod Actors
+pub mod Visits
 pub mod Processors
 pub mod Hands
 pub mod Chipsets

@@ -1,5 +1,5 @@
 -- A program: what its actor wants, what changes hands, and what its event says.
-use Rattle.std.specs.Prelude.{List, ℕ, ◌≡◌, ◌==◌, nat_lt, Bool, is_none, if◌then◌else◌, replicate, slice_set, Option, Some, None}
+use Rattle.std.specs.Prelude.{List, ℕ, ◌≡◌, nat_lt, Bool, is_none, replicate, slice_set, Option, Some, None}
 use Rattle.save_state_map.specs.Images.{ImageContents}
 use Rattle.cpu_regs.specs.Registers.{Registers}
 use Rattle.cpu_table.specs.Data.{SetupData}

@@ -9,8 +9,8 @@ use Rattle.cpu_program.specs.declared.state.State.TheVariants as state
 abbrev pub processor_in : ProcessorFields → Processor
 processor_in p =
     record {
-      setup = data_of p.setup;
-      me = p.me;
+      setup = data_of p.identity.setup;
+      me = p.identity.me;
       part = p.part;
       visits = p.visits;
       wave = p.wave;

@@ -21,10 +21,16 @@ impl Processor {
         ensures { processor_in self.new ≡ go_on row (processor_in self.old) }
     {
         self.part = match row {
-            Row::LookAtSource => Part::Entering(Entry::new(&self.setup, self.me)),
-            Row::LookAtExcept => Part::Gathering(Gather::new(&self.setup, self.me)),
+            Row::LookAtSource => Part::Entering(Entry::new(&self.identity.setup, self.identity.me)),
+            Row::LookAtExcept => Part::Gathering(Gather::new(
+                &self.identity.setup,
+                self.identity.me,
+            )),
             Row::MarkInsync => Part::Closing(self.close()),
-            Row::AwaitInside(_) => Part::Reporting(Report::new(&self.setup, self.me)),
+            Row::AwaitInside(_) => Part::Reporting(Report::new(
+                &self.identity.setup,
+                self.identity.me,
+            )),
             row => Part::Between(row),
         };
     }
@@ -35,10 +41,10 @@ impl Processor {
     {
         let held = held_bits(&self.held.desks);
         Close::new(
-            self.setup.processors,
-            self.me,
+            self.identity.setup.processors,
+            self.identity.me,
             held,
-            is_relaxed(self.setup.mode),
+            is_relaxed(self.identity.setup.mode),
         )
     }
 
@@ -48,10 +54,10 @@ impl Processor {
     {
         let held = held_bits(&self.held.desks);
         Exit::new(
-            self.setup.processors,
-            self.me,
+            self.identity.setup.processors,
+            self.identity.me,
             held,
-            is_elected(self.setup.policy),
+            is_elected(self.identity.setup.policy),
         )
     }
 
@@ -67,7 +73,7 @@ impl Processor {
     pub fn await_row(&self) -> Row
         ensures { result ≡ to_await (processor_in self.now) }
     {
-        if self.visits >= self.setup.visits {
+        if self.visits >= self.identity.setup.visits {
             Row::SwitchOff
         } else {
             Row::AwaitSmi
@@ -81,14 +87,14 @@ impl Processor {
     {
         match self.next_job(from) {
             Some(cpu) => Row::CollectJob(cpu),
-            None => after_jobs(self.setup.mode),
+            None => after_jobs(self.identity.setup.mode),
         }
     }
 
     fn next_job(&self, from: u16) -> Option<u16>
-        ensures { result ≡ next_below self.now.setup.processors (owes_job self.now.chair) from }
+        ensures { result ≡ next_below self.now.identity.setup.processors (owes_job self.now.chair) from }
     {
-        (from..self.setup.processors).find(|cpu| owes_job(&self.chair, *cpu))
+        (from..self.identity.setup.processors).find(|cpu| owes_job(&self.chair, *cpu))
     }
 
     /// Serving goes on where there is a need to be met; else the jobs are collected.
@@ -111,7 +117,7 @@ impl Processor {
         if let Some(server) = &mut self.chair {
             let need = server.next(&mut self.held);
             let at_hand = server.is_at_hand(&self.held.desks);
-            self.go_on_serving(is_at_need(self.setup.processors, need) && at_hand);
+            self.go_on_serving(is_at_need(self.identity.setup.processors, need) && at_hand);
         }
     }
 
@@ -120,9 +126,9 @@ impl Processor {
         ensures { processor_in self.new ≡ begin_serving self.old.chair (processor_in self.old) }
     {
         match &mut self.chair {
-            None => self.go_on(after_jobs(self.setup.mode)),
+            None => self.go_on(after_jobs(self.identity.setup.mode)),
             Some(server) => {
-                server.begin(self.me, self.wave);
+                server.begin(self.identity.me, self.wave);
                 self.serve_on();
             }
         }
@@ -131,7 +137,7 @@ impl Processor {
     /// The session is told what its access found, and tells its next need.
     pub fn take_serving(&mut self, found: u32) -> Label
         requires ready { IsReady self.old }
-        requires told { IsServing self.old.setup.processors self.old.chair self.old.held.desks }
+        requires told { IsServing self.old.identity.setup.processors self.old.chair self.old.held.desks }
         ensures label { result ≡ (taken_serving self.old.chair (processor_in self.old) found).label }
         ensures after { processor_in self.new ≡ (taken_serving self.old.chair (processor_in self.old) found).after }
     {

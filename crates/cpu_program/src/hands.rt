@@ -32,7 +32,7 @@ impl Processor {
     fn has(&self, k: u16) -> bool
         ensures { result ≡ is_some (thing_given (processor_in self.now) k) }
     {
-        if k == self.setup.processors {
+        if k == self.identity.setup.processors {
             self.chair.is_some()
         } else {
             self.held.desks.get(k).is_some()
@@ -77,7 +77,7 @@ impl Processor {
         ensures thing { result ≡ thing_given (processor_in self.old) k }
         ensures after { processor_in self.new ≡ after_giving (processor_in self.old) k }
     {
-        if k == self.setup.processors {
+        if k == self.identity.setup.processors {
             match self.chair.take() {
                 None => None,
                 Some(server) => Some(Cargo::Chair(server)),
@@ -104,7 +104,7 @@ impl Processor {
                 None
             }
             Some(mut desk) => {
-                run_if_any(&self.setup, &mut desk);
+                run_if_any(&self.identity.setup, &mut desk);
                 self.ran = desk.job;
                 Some(Cargo::Desk(desk))
             }
@@ -124,7 +124,7 @@ impl Processor {
     fn receive_desk(&mut self, k: u16, desk: Desk)
         ensures { processor_in self.new ≡ desk_received (processor_in self.old) k desk }
     {
-        if desk.image.kind() == self.setup.kind {
+        if desk.image.kind() == self.identity.setup.kind {
             put_if_any(&mut self.held.desks, k, desk);
         }
     }
@@ -132,7 +132,9 @@ impl Processor {
     fn receive_chair(&mut self, k: u16, server: Server)
         ensures { processor_in self.new ≡ chair_received (processor_in self.old) k server }
     {
-        if k == self.setup.processors && server.processors() == self.setup.processors {
+        if k == self.identity.setup.processors
+            && server.processors() == self.identity.setup.processors
+        {
             self.chair = Some(server);
         }
     }

@@ -6,6 +6,7 @@ mod cargo;
 mod chipset;
 mod going;
 mod hands;
+mod identity;
 mod laws;
 mod part;
 mod processor;

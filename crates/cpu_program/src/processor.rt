@@ -2,14 +2,14 @@ ghost use Rattle.std.specs.Prelude.{◌≡◌, ◌<◌, IfOk, None, replicate};
 ghost use Rattle.cpu_table.specs.Data.{data_of};
 ghost use Rattle.cpu_program.specs.Programs.{first_processor, held_at_first};
 ghost use Rattle.handler_ops.specs.declared.need.Need.TheVariants as need;
-ghost use Rattle.sync_words.specs.Steps.{wants, looks_at};
+ghost use Rattle.sync_words.specs.Steps.{wants};
 ghost use Rattle.cpu_program.specs.Bounds.{IsProcessor};
 ghost use Rattle.cpu_program.specs.Views.{processor_in};
 ghost use Rattle.cpu_program.specs.Processors.{want_at, want_for, want_of_session, want_in, is_off_part};
 
+use crate::identity::Identity;
 use crate::part::Part;
 use cpu_regs::Regs;
-use cpu_table::Setup;
 use handler_ops::{Desk, Desks, Held, Job, Need, Server};
 use save_state_map::Image;
 use smm_base::NoMemory;
@@ -19,8 +19,7 @@ use sync_words::{Access, Hand, OFF, Row, Want, WordId};
 /// A processor. Its image and its job are on its desk, which changes hands; all else stays with it.
 #[derive(Drop)]
 pub struct Processor {
-    pub setup: Setup,
-    pub me: u16,
+    pub identity: Identity,
     pub part: Part,
     /// How many it has begun.
     pub visits: u32,
@@ -41,19 +40,17 @@ pub struct Processor {
 impl Processor {
     /// A processor that waits for its interrupt, with its own desk, which has its image and no job.
     pub fn new(
-        setup: Setup,
-        me: u16,
+        identity: Identity,
         image: &Image,
         registers: Regs,
         held: Held,
         chair: Option<Server>,
     ) -> Processor
-        requires { held.desks ≡ held_at_first setup.processors me image.now }
-        ensures { processor_in result ≡ first_processor (data_of setup) me image.now registers chair }
+        requires { held.desks ≡ held_at_first identity.setup.processors identity.me image.now }
+        ensures { processor_in result ≡ first_processor (data_of identity.setup) identity.me image.now registers chair }
     {
         Processor {
-            setup,
-            me,
+            identity,
             part: Part::Between(Row::AwaitSmi),
             visits: 0,
             wave: 0,
@@ -84,30 +81,30 @@ impl Processor {
     }
 
     fn want_at(&self, row: Row) -> Want
-        ensures { result ≡ want_at row self.now.me self.now.bsp }
+        ensures { result ≡ want_at row self.now.identity.me self.now.bsp }
     {
         match row {
-            Row::AwaitSmi => wants(WordId::Pend(self.me), Access::TakeSmi),
-            Row::SwitchOff => wants(WordId::Pend(self.me), Access::Put(OFF)),
+            Row::AwaitSmi => wants(WordId::Pend(self.identity.me), Access::TakeSmi),
+            Row::SwitchOff => wants(WordId::Pend(self.identity.me), Access::Put(OFF)),
             Row::MarkInside => wants(WordId::Inside, Access::Put(1)),
             Row::TakeSource => wants(WordId::Source, Access::Put(0)),
             Row::CollectJob(cpu) => await_busy(cpu),
             Row::LeaveInside => wants(WordId::Inside, Access::Put(0)),
             Row::AwaitRelease => Want::Access {
-                word: WordId::Run(self.me),
+                word: WordId::Run(self.identity.me),
                 access: Access::Down,
-                hand: Hand::Take(self.me),
+                hand: Hand::Take(self.identity.me),
             },
             Row::GiveDeskBack => Want::Access {
-                word: WordId::Busy(self.me),
+                word: WordId::Busy(self.identity.me),
                 access: Access::Put(2),
-                hand: Hand::Give(self.me),
+                hand: Hand::Give(self.identity.me),
             },
             Row::TellReleased | Row::TellDismissed => wants(WordId::Run(self.bsp), Access::Up),
-            Row::AwaitDismissal => wants(WordId::Run(self.me), Access::Down),
-            Row::WithdrawReport => wants(WordId::Present(self.me), Access::Put(0)),
+            Row::AwaitDismissal => wants(WordId::Run(self.identity.me), Access::Down),
+            Row::WithdrawReport => wants(WordId::Present(self.identity.me), Access::Put(0)),
             Row::AwaitSessionEnd => wants(WordId::Insync, Access::Await(0, 0)),
-            Row::ClearSignal => wants(WordId::Pend(self.me), Access::ClearSmi),
+            Row::ClearSignal => wants(WordId::Pend(self.identity.me), Access::ClearSmi),
             _ => Want::Off,
         }
     }

@@ -19,11 +19,11 @@ use sync_words::{DELIVERABLE, Label, Row};
 // The rows between the parts.
 impl Processor {
     /// Goes on after the access of this row found a number, and gives what the event says. The time is at most proportional to the
-    /// numbers of processors and of causes.
+    /// number of processors.
     pub fn take_at(&mut self, row: Row, found: u32) -> Label
         requires ready { IsReady self.old }
         requires images { HasImages self.old }
-        requires within { IsRow row (data_of self.old.setup) self.old.visits }
+        requires within { IsRow row (data_of self.old.identity.setup) self.old.visits }
         ensures label { result ≡ (taken_at row (processor_in self.old) found).label }
         ensures after { processor_in self.new ≡ (taken_at row (processor_in self.old) found).after }
     {
@@ -50,7 +50,7 @@ impl Processor {
     fn take_smi(&mut self, found: u32) -> Label
         requires ready { IsReady self.old }
         requires images { HasImages self.old }
-        requires left { self.old.visits < self.old.setup.visits }
+        requires left { self.old.visits < self.old.identity.setup.visits }
         ensures label { result ≡ (taken_at row.AwaitSmi (processor_in self.old) found).label }
         ensures after { processor_in self.new ≡ (taken_at row.AwaitSmi (processor_in self.old) found).after }
     {
@@ -77,14 +77,14 @@ impl Processor {
         ensures after { processor_in self.new ≡ (taken_at row.TakeSource (processor_in self.old) found).after }
     {
         self.wave = found;
-        self.at_row(after_source(self.setup.mode));
+        self.at_row(after_source(self.identity.setup.mode));
         Label::Served(found)
     }
 
     // The job of a processor is taken off its desk, and the next one is collected.
     fn collect_job(&mut self, cpu: u16) -> Label
         requires ready { IsReady self.old }
-        requires within { cpu < self.old.setup.processors }
+        requires within { cpu < self.old.identity.setup.processors }
         ensures label { result ≡ Collect cpu }
         ensures after { processor_in self.new ≡ (taken_at (row.CollectJob cpu) (processor_in self.old) 0).after }
     {
@@ -132,11 +132,11 @@ impl Processor {
 
     // Is there a job to run on the processor's own desk?
     fn has_work(&self) -> bool
-        ensures { result ≡ job_to_run (data_of self.now.setup) (own_desk (processor_in self.now)) }
+        ensures { result ≡ job_to_run (data_of self.now.identity.setup) (own_desk (processor_in self.now)) }
     {
-        match self.held.desks.get(self.me) {
+        match self.held.desks.get(self.identity.me) {
             None => false,
-            Some(desk) => can_run_on(&self.setup, &desk.job),
+            Some(desk) => can_run_on(&self.identity.setup, &desk.job),
         }
     }
 }

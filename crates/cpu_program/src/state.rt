@@ -7,6 +7,7 @@ ghost use Rattle.cpu_program.specs.Views.{actor_in};
 
 use crate::cargo::Cargo;
 use crate::chipset::Chipset;
+use crate::identity::Identity;
 use crate::processor::{Processor, held_at_first};
 use cpu_regs::Regs;
 use cpu_table::Setup;
@@ -40,7 +41,8 @@ impl State {
         match (start, regs) {
             (Some(image), Some(registers)) => {
                 let held = held_at_first(alloc, setup.processors, actor, &image)?;
-                Ok(State::Processor(Processor::new(copy, actor, &image, registers, held, chair)))
+                let identity = Identity::new(alloc, copy, actor)?;
+                Ok(State::Processor(Processor::new(identity, &image, registers, held, chair)))
             }
             _ => Ok(State::Chipset(Chipset::new(copy))),
         }
@@ -62,7 +64,7 @@ impl State {
         ensures { result ≡ number_of (actor_in self.now) }
     {
         match self {
-            State::Processor(processor) => processor.me,
+            State::Processor(processor) => processor.identity.me,
             State::Chipset(chipset) => chipset.setup.processors,
         }
     }

@@ -9,8 +9,8 @@ use crate::processor::Processor;
 use sync_words::{Applied, Label};
 
 impl Processor {
-    /// Goes on after the wanted access was accepted, and gives what the event says. The time is at most proportional to the numbers
-    /// of processors and of causes, but for a walk's search for its next handler.
+    /// Goes on after the wanted access was accepted, and gives what the event says. The time is at most proportional to the number
+    /// of processors, but for a walk's search for its next handler.
     pub fn take(&mut self, applied: Applied) -> Label
         requires processor { IsProcessor (processor_in self.old) }
         requires accepted { Accepts (want_in self.old.part (processor_in self.old)) applied }

@@ -1,15 +1,12 @@
-ghost use Rattle.std.specs.Prelude.{◌≡◌, ◌<◌, ◌≤◌, slice_set, length, option_map};
-ghost use Rattle.std.specs.List.{find};
+ghost use Rattle.std.specs.Prelude.{◌≡◌, ◌<◌, slice_set, length, option_map};
 ghost use Rattle.cpu_program.specs.Bounds.{AreOfKind, IsReady, HasImages};
 ghost use Rattle.cpu_program.specs.Views.{processor_in};
 ghost use Rattle.handler_ops.specs.Course.{desk_of};
-ghost use Rattle.cpu_table.specs.Causes.{cause_of, is_of_visit};
 ghost use Rattle.cpu_program.specs.Processors.{desk_saved, entered, own_desk, resume_label, resumed};
 
 use crate::part::Part;
 use crate::processor::Processor;
 use cpu_regs::{After, Cause, Regs, enter, resume};
-use cpu_table::CauseAt;
 use handler_ops::Desks;
 use sync_words::{Label, Row};
 
@@ -19,12 +16,17 @@ impl Processor {
     pub fn enter(&mut self)
         requires ready { IsReady self.old }
         requires images { HasImages self.old }
-        requires left { self.old.visits < self.old.setup.visits }
+        requires left { self.old.visits < self.old.identity.setup.visits }
         ensures { processor_in self.new ≡ entered (processor_in self.old) }
     {
+        let cause = self.identity.next_cause(self.visits);
         self.visits += 1;
-        let cause = cause_of(self.setup.causes.as_slice(), self.me, self.visits);
-        save(&mut self.held.desks, self.me, &self.registers, &cause);
+        save(
+            &mut self.held.desks,
+            self.identity.me,
+            &self.registers,
+            &cause,
+        );
         self.go_on(Row::LookAtSource);
     }
 
@@ -35,7 +37,7 @@ impl Processor {
         ensures after { processor_in self.new ≡ resumed (own_desk (processor_in self.old)) (processor_in self.old) }
     {
         self.part = Part::Between(self.await_row());
-        match self.held.desks.get(self.me) {
+        match self.held.desks.get(self.identity.me) {
             None => Label::Resume(After::Next),
             Some(desk) => {
                 let after = resume(&desk.image, &mut self.registers);
@@ -56,26 +58,4 @@ fn save(held: &mut Desks, cpu: u16, registers: &Regs, cause: &Cause)
         enter(registers, cause, &mut desk.image);
         held.put(cpu, desk);
     }
-}
-
-// The cause of a visit: that of the first entry for it, or none. The time is at most proportional to the number of entries.
-fn cause_of(causes: &[CauseAt], cpu: u16, visit: u32) -> Cause
-    ensures { result ≡ cause_of causes.now cpu visit }
-{
-    match entry_of(causes, cpu, visit) {
-        None => Cause {
-            halt: false,
-            io: None,
-        },
-        Some(entry) => entry.cause,
-    }
-}
-
-fn entry_of(causes: &[CauseAt], cpu: u16, visit: u32) -> Option<CauseAt>
-    ensures { result ≡ find (is_of_visit cpu visit) causes.now }
-{
-    causes
-        .iter()
-        .copied()
-        .find(|entry| entry.cpu == cpu && entry.visit == visit)
 }

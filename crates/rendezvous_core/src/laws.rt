@@ -1,4 +1,3 @@
-ghost use Rattle.std.specs.Prelude.{ℕ, ◌≡◌, ◌++◌, List, length};
 ghost use Rattle.rendezvous_core.specs.Platforms.{KeepsPlatform};
 ghost use Rattle.rendezvous_core.specs.Laws.{AppendsEvents, AppendsWorld, StaysWithoutEvent, KeepsActors};
 

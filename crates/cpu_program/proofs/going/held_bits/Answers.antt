@@ -1,4 +1,4 @@
-use Rattle.std.proofs.Common.{◌≡◌, ◌<◌, ◌≤◌, ◌∙◌, length, sym, arith}
+use Rattle.std.proofs.Common.{◌<◌, ◌∙◌, sym, arith}
 use Rattle.cpu_program.proofs.DeskLemmas.{bits_none, bits_put, bits_past, bits_all, bits_fit}
 use Rattle.cpu_program.proofs.going.held_bits.Goals.{then-is_held, else-is_held}
 use Rattle.cpu_program.proofs.going.held_bits.Goals as goal

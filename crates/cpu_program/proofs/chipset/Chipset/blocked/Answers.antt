@@ -1,4 +1,3 @@
-use Rattle.std.proofs.Common.{rules, arith}
 use Rattle.cpu_table.specs.Data.{data_of}
 use Rattle.cpu_program.proofs.WaveLemmas.{arrivals_few}
 use Rattle.cpu_program.proofs.chipset.Chipset.blocked.Goals as goal

@@ -16,8 +16,8 @@ serve_on-requires c =
           ∙ c.requires.ready.held;
       chair =
           ap (λ (s : Session). s.setup.processors) c.answer-label.ensures.after
-          ∙ subst (λ (o : Option Session). IfSome o (HasProcessors c.args.self.now.setup.processors)) c.in-Some.is c.requires.ready.chair;
+          ∙ subst (λ (o : Option Session). IfSome o (HasProcessors c.args.self.now.identity.setup.processors)) c.in-Some.is c.requires.ready.chair;
     }
 
 pub answer-label-requires-clause-at_hand : goal.answer-label-requires-clause-at_hand
-answer-label-requires-clause-at_hand c = serving_at_hand c.args.self.now.setup.processors c.args.self.now.chair c.in-Some.server c.args.self.now.held.desks c.in-Some.is c.requires.told
+answer-label-requires-clause-at_hand c = serving_at_hand c.args.self.now.identity.setup.processors c.args.self.now.chair c.in-Some.server c.args.self.now.held.desks c.in-Some.is c.requires.told
