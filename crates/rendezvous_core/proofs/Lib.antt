@@ -4,3 +4,4 @@ pub mod StartLemmas
 pub mod NumberLemmas
 pub mod ActorLemmas
 pub mod PlatformLemmas
+pub mod Finishing

@@ -9,3 +9,4 @@ pub mod StartsInside
 pub mod Turns
 pub mod WorldInside
 pub mod Platforms
+pub mod Endings

@@ -4,6 +4,7 @@
 
 mod beginning;
 mod error;
+mod finish;
 mod laws;
 mod lying;
 mod lying_on_kind;
