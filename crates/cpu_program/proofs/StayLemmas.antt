@@ -1,5 +1,5 @@
 -- A program keeps its bounds: while things change hands, and after its event.
-use Rattle.std.proofs.Common.{◌≡◌, ◌<◌, ◌+◌, ◌-◌, ◌∙◌, ℕ, zero, suc, ◌==◌, ◌&&◌, ◌||◌, Bool, true, false, length, Option, Some, None, refl, ap, subst, sym, arith}
+use Rattle.std.proofs.Common.{◌≡◌, ◌<◌, ◌+◌, ◌∙◌, ℕ, zero, suc, ◌==◌, ◌&&◌, ◌||◌, Bool, true, false, length, Option, Some, None, refl, ap, subst, sym, arith}
 use Rattle.std.proofs.lemmas.Bool.{and_parts, eqb-true}
 use Rattle.std.proofs.lemmas.List.{length-set, length-replicate}
 use Rattle.std.specs.Prelude.{nat_lt, nat_le, slice_set, option_map, if◌then◌else◌, replicate, is_some, IfSome, IsSome, IsTrue}
