@@ -222,16 +222,88 @@ round_room es now w n k room below fits is =
 
 -- ALL ROUNDS
 
--- where a list of actors makes no event, none of them makes one
+quiet : (s : Stepped) (es : List Event) → makes_any (with_event s es) ≡ false → MakesNoEvent s × (makes_any es ≡ false)
+quiet (stepped.Event e) es none = absurd cc
+quiet (stepped.Waiting found) es none = (tt, none)
+quiet stepped.Off es none = (tt, none)
+
+-- where a range of actors makes no event, none of them makes one
 none_makes : (w : World) (from n : ℕ) → makes_any (events_from w (range_with_len from n)) ≡ false → (k : ℕ) → k < n → MakesNoEvent (step w (from + k)).0
 none_makes w from zero none k below = absurd (omega (arith, below))
-none_makes w from (suc n) none k below = by_step (step w from).0 refl none k below
-  where
-    by_step : (s : Stepped) → (step w from).0 ≡ s → makes_any (with_event s (events_from (step w from).1 (range_with_len (from + 1) n))) ≡ false → (k : ℕ) → k < suc n → MakesNoEvent (step w (from + k)).0
-    by_step (stepped.Event e) is none k below = absurd cc
-    by_step (stepped.Waiting found) is none zero below = subst (λ (x : ℕ). MakesNoEvent (step w x).0) (omega arith) (subst MakesNoEvent (sym is) tt)
-    by_step (stepped.Waiting found) is none (suc k) below = later (subst MakesNoEvent (sym is) tt) none k below
-      where
-        later : MakesNoEvent (step w from).0 → makes_any (events_from (step w from).1 (range_with_len (from + 1) n)) ≡ false → (k : ℕ) → suc k < suc n → MakesNoEvent (step w (from + suc k)).0
-        later h none k below = ?
-    by_step stepped.Off is none k below = ?
+none_makes w from (suc n) none zero below =
+    let here = (quiet (step w from).0 (events_from (step w from).1 (range_with_len (from + 1) n)) none).0 in
+    let at : from ≡ from + 0 = omega arith in
+    subst (λ (x : ℕ). MakesNoEvent (step w x).0) at here
+none_makes w from (suc n) none (suc k) below =
+    let both = quiet (step w from).0 (events_from (step w from).1 (range_with_len (from + 1) n)) none in
+    let rest : makes_any (events_from w (range_with_len (from + 1) n)) ≡ false = subst (λ (v : World). makes_any (events_from v (range_with_len (from + 1) n)) ≡ false) (step_stays w from both.0) both.1 in
+    let on : (from + 1) + k ≡ from + suc k = omega arith in
+    subst (λ (x : ℕ). MakesNoEvent (step w x).0) on (none_makes w (from + 1) n rest k (omega (arith, below)))
+
+not_both : (s : Stepped) → MakesEvent s → MakesNoEvent s → ⊥
+not_both (stepped.Event e) h k = k
+not_both (stepped.Waiting found) h k = h
+not_both stepped.Off h k = h
+
+-- a round without an event leaves all off
+pub all_off : (r : Replay) (s : Replay) → IsNeverStuck r.world → IsPlayedOn r s → length s.world.actors ≡ s.processors + 1
+    → makes_any (events_from s.world (range_with_len 0 (s.processors + 1))) ≡ false → is_complete s.world ≡ true
+all_off r s goes played size none =
+    ⊎_elim
+    (λ (off : is_complete (world_after r.world (rounds r.processors played.count)) ≡ true). ap is_complete played.world ∙ off)
+    (λ (on : CanGoOn (world_after r.world (rounds r.processors played.count))).
+    let more : CanGoOn s.world = subst CanGoOn (sym played.world) on in
+    let below = more.1 in
+    absurd (not_both (step s.world more.0).0 more.2 (none_makes s.world 0 (s.processors + 1) none more.0 (omega (arith, below, size)))))
+    (goes (rounds r.processors played.count))
+
+-- no round
+pub not_yet : (r : Replay) → IsPlayedOn r r
+not_yet r = record { count = 0; world = refl; events = sym (append-nil r.events); processors = refl; room = refl }
+
+-- a round more
+pub one_more : (r s t : Replay) → IsPlayedOn r s
+    → t ≡ record s { world = world_after s.world (range_with_len 0 (s.processors + 1)); events = s.events ++ events_from s.world (range_with_len 0 (s.processors + 1)) } → IsPlayedOn r t
+one_more r s t p is =
+    let n = r.processors in
+    let next : List ℕ = range_with_len 0 (n + 1) in
+    let same : range_with_len 0 (s.processors + 1) ≡ next = ap (λ (k : ℕ). range_with_len 0 (k + 1)) p.processors in
+    record {
+      count = suc p.count;
+      world = ap (λ (x : Replay). x.world) is ∙ ap (λ xs. world_after s.world xs) same ∙ ap (λ w. world_after w next) p.world ∙ sym (world_append r.world (rounds n p.count) next);
+      events = ap (λ (x : Replay). x.events) is ∙ ap (λ xs. s.events ++ events_from s.world xs) same ∙ ap (λ es. es ++ events_from s.world next) p.events
+          ∙ append_assoc r.events (events_from r.world (rounds n p.count)) (events_from s.world next)
+          ∙ ap (λ w. r.events ++ (events_from r.world (rounds n p.count) ++ events_from w next)) p.world
+          ∙ ap (λ es. r.events ++ es) (sym (events_append r.world (rounds n p.count) next));
+      processors = ap (λ (x : Replay). x.processors) is ∙ p.processors;
+      room = ap (λ (x : Replay). x.room) is ∙ p.room;
+    }
+
+-- there is room for the next round
+pub next_room : (r s : Replay) → HasRoomForAll r → IsPlayedOn r s → length s.events + length (events_from s.world (range_with_len 0 (s.processors + 1))) ≤ s.room
+next_room r s fits p =
+    let n = r.processors in
+    let next : List ℕ = range_with_len 0 (n + 1) in
+    let done : List ℕ = rounds n p.count in
+    let same : length (events_from s.world (range_with_len 0 (s.processors + 1))) ≡ length (events_from (world_after r.world done) next) =
+    ap (λ (k : ℕ). length (events_from s.world (range_with_len 0 (k + 1)))) p.processors ∙ ap (λ w. length (events_from w next)) p.world in
+    let whole = fits (done ++ next) in
+    let parts = ap length (events_append r.world done next) in
+    let sum = length-append (events_from r.world done) (events_from (world_after r.world done) next) in
+    let so_far = ap length p.events in
+    let both = length-append r.events (events_from r.world done) in
+    let room = p.room in
+    omega (arith, same, whole, parts, sum, so_far, both, room)
+
+any_some : (es : List Event) → makes_any es ≡ true → 1 ≤ length es
+any_some [] h = absurd cc
+any_some (e ∷ es) h = omega arith
+
+-- a round with an event leaves less room
+pub room_left : (s t : Replay) → length s.events + length (events_from s.world (range_with_len 0 (s.processors + 1))) ≤ s.room → makes_any (events_from s.world (range_with_len 0 (s.processors + 1))) ≡ true
+    → t.events ≡ s.events ++ events_from s.world (range_with_len 0 (s.processors + 1)) → t.room ≡ s.room → (t.room - length t.events) + 1 ≤ s.room - length s.events
+room_left s t fits some events room =
+    let few = any_some (events_from s.world (range_with_len 0 (s.processors + 1))) some in
+    let sum = length-append s.events (events_from s.world (range_with_len 0 (s.processors + 1))) in
+    let now = ap length events in
+    omega (arith, few, sum, now, fits, room)
