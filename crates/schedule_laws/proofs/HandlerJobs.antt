@@ -1,6 +1,6 @@
 -- The rows at which the server collects a job: it claims the word `busy` of its processor, or waits for it, and receives the desk.
-use Rattle.std.proofs.Common.{ℕ, ◌≡◌, ◌≢◌, ◌<◌, ◌≤◌, ◌⊎◌, inl, inr, arith, Bool, true, false, List, [], ◌∷◌, length, get_or, slice_set, Option, Some, None, refl, sym, ap, subst, ⊎_elim, ◌∙◌}
-use Rattle.std.specs.Prelude.{◌==◌, is_some, IsSome, IsSomeAnd, option_map}
+use Rattle.std.proofs.Common.{ℕ, ◌≡◌, ◌≢◌, ◌<◌, ◌≤◌, ◌⊎◌, inl, arith, Bool, true, false, List, [], ◌∷◌, length, get_or, slice_set, Option, Some, None, refl, sym, ap, subst, ⊎_elim, ◌∙◌}
+use Rattle.std.specs.Prelude.{is_some, IsSome, IsSomeAnd, option_map}
 use Rattle.std.proofs.lemmas.Bool.{cases_eq, cases_Bool, eq-eqb, ne_eqb}
 use Rattle.std.proofs.lemmas.List.{get_or-set_other, get_or-set_same, length-set, set-set}
 use Rattle.smm_base.specs.declared.kinds.HandlerType.{HandlerType}
@@ -31,22 +31,21 @@ use Rattle.cpu_program.specs.Hands.{is_kind}
 use Rattle.cpu_program.specs.Processors.{is_relaxed}
 use Rattle.rendezvous_machine.specs.Machines.{Machine, Member, Session, member, nobody}
 use Rattle.rendezvous_machine.specs.Listed.{CanSay, IsServed, grown, is_over, nothing_left, place_of}
-use Rattle.rendezvous_machine.specs.Rules.{Rule, HasFinished, IsLeast}
+use Rattle.rendezvous_machine.specs.Rules.{Rule, IsLeast}
 use Rattle.rendezvous_machine.specs.Effects.{effect, hears, with_job}
 use Rattle.rendezvous_machine.specs.Services.{setting}
 use Rattle.schedule_laws.proofs.Scenes.{Scene, Seat, actors_of}
 use Rattle.schedule_laws.proofs.Stations.{work_of}
 use Rattle.schedule_laws.proofs.Leads.{serves_at}
-use Rattle.schedule_laws.proofs.Invariant.{Context, IsReady, IsCourse, IsJobOf, IsFine, Holds, GoesOn, begins_from, serves_from, mode_of, with_done, seat_known, seat_listed, desk_at}
+use Rattle.schedule_laws.proofs.Invariant.{Context, IsCourse, IsJobOf, IsFine, Holds, begins_from, serves_from, mode_of, with_done, seat_known, seat_listed, desk_at}
 use Rattle.schedule_laws.proofs.Frames.{mode_le, stays}
 use Rattle.schedule_laws.proofs.Facts.{true_false}
 use Rattle.schedule_laws.proofs.LeadFrames.{at_stage}
 use Rattle.schedule_laws.proofs.SessionFrames.{bsp_says}
 use Rattle.schedule_laws.proofs.ImageKinds.{is_same_kind}
-use Rattle.schedule_laws.proofs.HandlerFits.{PlaceFits}
 use Rattle.schedule_laws.proofs.HandlerSteps.{seat_in, IsAlike}
 use Rattle.schedule_laws.proofs.HandlerPlaces.{IsTied, IsNext, next_both, alike, tied, serves_is, can_say, led_on}
-use Rattle.schedule_laws.proofs.HandlerLandings.{next_told, serves_low, serves_high}
+use Rattle.schedule_laws.proofs.HandlerLandings.{next_told, serves_low}
 use Rattle.schedule_laws.proofs.HandlerFrames.{place_at, answers}
 use Rattle.schedule_laws.proofs.HandlerLooks.{IsTold, RowKept, chair_told, told_processor}
 use Rattle.schedule_laws.proofs.JobDesks.{IsFinished, finished_job, held_back, scene_back, machine_back, context_back, ready_back}
