@@ -16,7 +16,7 @@ use Rattle.schedule_laws.proofs.Frames.{own_at}
 abbrev pub at_stage : Context → ℕ → ℕ → Context
 at_stage c k x = record c { stage = k; next = x }
 
-totals_same : (c : Context) (counter run a b e a' b' e' : ℕ) → a' ≡ a → b' ≡ b → e' ≡ e → IsTotals c counter run a b e → IsTotals c counter run a' b' e'
+pub totals_same : (c : Context) (counter run a b e a' b' e' : ℕ) → a' ≡ a → b' ≡ b → e' ≡ e → IsTotals c counter run a b e → IsTotals c counter run a' b' e'
 totals_same c counter run a b e a' b' e' x y z h = rw (x, y, z) h
 
 -- the BSP takes its next seat: the others see no change

@@ -46,4 +46,6 @@ pub mod HandlerClaims
 pub mod HandlerReads
 pub mod Handlers
 pub mod HandlerRaises
+pub mod JobDesks
+pub mod HandlerJobs
 pub mod Turns
