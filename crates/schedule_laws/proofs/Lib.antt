@@ -46,4 +46,5 @@ pub mod HandlerClaims
 pub mod HandlerReads
 pub mod Handlers
 pub mod HandlerRaises
+pub mod HandlerStarts
 pub mod Turns
