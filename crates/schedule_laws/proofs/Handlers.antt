@@ -27,10 +27,10 @@ use Rattle.schedule_laws.proofs.HandlerReads.{reading}
 use Rattle.schedule_laws.proofs.HandlerPuts.{putting}
 use Rattle.schedule_laws.proofs.HandlerClaims.{desk_claimed}
 use Rattle.schedule_laws.proofs.HandlerJobs.{job_claimed, job_awaited}
+use Rattle.schedule_laws.proofs.HandlerStarts.{raising}
 
--- the rows that are still to be proved: a job is given, and an image is written
+-- the row that is still to be proved: an image is written
 pub record OwedRows (d : SetupData) : Type 0 where
-  pub raising : (c : Context) (s : Scene) (m : Machine) (t : Seat) (x : ℕ) (l : Label) → IsTold d c s m t (told.Raising x l) → RowKept d c s m t (told.Raising x l)
   pub writing : (c : Context) (s : Scene) (m : Machine) (t : Seat) (x reg width v : ℕ) → IsTold d c s m t (told.Writing x reg width v) → RowKept d c s m t (told.Writing x reg width v)
 
 module _ (d : SetupData) (owed : OwedRows d) where
@@ -49,7 +49,7 @@ module _ (d : SetupData) (owed : OwedRows d) where
       (cases_eq (get_or s.words.busy x 0) 2)
   row_kept c s m t (told.AwaitingJob x) k h = job_awaited d c s m t x k h
   row_kept c s m t (told.Putting x) k h = putting d c s m t x h
-  row_kept c s m t (told.Raising x l) k h = owed.raising c s m t x l h
+  row_kept c s m t (told.Raising x l) k h = raising d c s m t x l h
   row_kept c s m t (told.Reading x reg width) k h = reading d c s m t x reg width h
   row_kept c s m t (told.Writing x reg width v) k h = owed.writing c s m t x reg width v h
   row_kept c s m t (told.Allocating n) k h = allocating d c s m t n h

@@ -48,4 +48,5 @@ pub mod Handlers
 pub mod HandlerRaises
 pub mod JobDesks
 pub mod HandlerJobs
+pub mod HandlerStarts
 pub mod Turns

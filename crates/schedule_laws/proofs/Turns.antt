@@ -26,7 +26,7 @@ abbrev pub LeadKept : SetupData → Lead → Type 0
 LeadKept d lead =
     (c : Context) (i : ℕ) (s : Scene) (m : Machine) (t : Seat) → Holds d c s m → i < d.processors → seat s i ≡ t → t.position ≡ Leading lead → KeptAt d s m i t (Leading lead)
 
--- the turns that are still to be proved: four rows of serving, and the collecting of a job after it
+-- the turns that are still to be proved: three rows of serving, and the collecting of a job after it
 pub record OwedTurns (d : SetupData) : Type 0 where
   pub rows : OwedRows d
   pub collect : (j : ℕ) → LeadKept d (Collecting j)
