@@ -44,6 +44,7 @@ pub mod HandlerBegins
 pub mod HandlerPuts
 pub mod HandlerClaims
 pub mod HandlerReads
+pub mod HandlerWrites
 pub mod Handlers
 pub mod HandlerRaises
 pub mod JobDesks
