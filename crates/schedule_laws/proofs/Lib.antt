@@ -29,6 +29,7 @@ pub mod Loops
 pub mod Counts
 pub mod GatherLooks
 pub mod Closes
+pub mod Owes
 pub mod HandlerLandings
 pub mod HandlerFrames
 pub mod HandlerLooks
