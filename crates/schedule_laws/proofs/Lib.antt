@@ -47,4 +47,5 @@ pub mod HandlerClaims
 pub mod HandlerReads
 pub mod Handlers
 pub mod HandlerRaises
+pub mod Collects
 pub mod Turns
