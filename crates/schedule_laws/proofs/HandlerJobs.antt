@@ -11,17 +11,17 @@ use Rattle.handler_ops.specs.declared.desk.Desk.{Desk}
 use Rattle.handler_ops.specs.declared.desk.Job.{Job}
 use Rattle.handler_ops.specs.declared.row.Row.{Row}
 use Rattle.handler_ops.specs.declared.row.Row.TheVariants as told
-use Rattle.handler_ops.specs.declared.seat.Seat.{Seat as JobSeat}
-use Rattle.handler_ops.specs.declared.seat.Seat.TheVariants.{Free}
-use Rattle.handler_ops.specs.Serving.{HasOpen, IsFree, IsDone, run_at}
-use Rattle.handler_ops.specs.Forms.{Event, Own, Ran}
-use Rattle.handler_ops.specs.Beginning.{program_of}
-use Rattle.handler_ops.specs.Places.{OpenWalk, Begun, Place, HasMore, Accepts, next}
-use Rattle.handler_ops.specs.Stands.{Leads}
+use Rattle.serving_place.specs.declared.seat.Seat.{Seat as JobSeat}
+use Rattle.serving_place.specs.declared.seat.Seat.TheVariants.{Free}
+use Rattle.serving_place.specs.Serving.{HasOpen, IsFree, IsDone, run_at}
+use Rattle.serving_place.specs.Forms.{Event, Own, Ran}
+use Rattle.serving_place.specs.Beginning.{program_of}
+use Rattle.serving_place.specs.Places.{OpenWalk, Begun, Place, HasMore, Accepts, next}
+use Rattle.serving_place.specs.Stands.{Leads}
 use Rattle.handler_ops.specs.Course.{Course, Desks, Move, Takes, Step, desk_of, has_job, is_held, done_on, with_run, after_all, step_of, said, moved}
 use Rattle.handler_ops.specs.Conditions.{IsSound, HasCome, CameFor}
 use Rattle.handler_ops.specs.Told.{step_as}
-use Rattle.handler_ops.proofs.Completion.{owner_ran}
+use Rattle.serving_place.proofs.Completion.{owner_ran}
 use Rattle.handler_ops.proofs.Dues.{held_is}
 use Rattle.handler_ops.proofs.Rows.{step_leads}
 use Rattle.handler_ops.proofs.RowSteps.{step_of_row}

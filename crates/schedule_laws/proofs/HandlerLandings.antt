@@ -2,7 +2,7 @@
 -- goes on with its session.
 use Rattle.std.proofs.Common.{ℕ, ◌≡◌, ◌≢◌, ◌<◌, ◌≤◌, ◌⊎◌, inl, inr, arith, Bool, true, false, List, [], ◌∷◌, get_or, slice_set, Option, Some, None, refl, sym, ap, subst, ⊎_elim, ◌∙◌}
 use Rattle.std.specs.Prelude.{option_map}
-use Rattle.std.proofs.lemmas.Bool.{cases_eq, cases_lt, lt-ltb}
+use Rattle.std.proofs.lemmas.Bool.{cases_eq, lt-ltb}
 use Rattle.std.proofs.lemmas.List.{get_or-set_other}
 use Rattle.smm_base.specs.declared.kinds.HandlerType.{HandlerType}
 use Rattle.cpu_table.specs.Data.{SetupData}
@@ -26,16 +26,17 @@ use Rattle.cpu_program.specs.Actors.{Processor, OfProcessor}
 use Rattle.cpu_program.specs.Processors.{is_relaxed, can_serve, with_need, go_on, after_jobs, owes_job, desks_held, between}
 use Rattle.rendezvous_machine.specs.Machines.{Machine}
 use Rattle.rendezvous_machine.specs.Services.{setting}
-use Rattle.schedule_laws.proofs.Scenes.{Scene, Seat, AtHandlers, Collecting, LeavingInside, MarkingInsync, Position, Leading as LeadingAt, seat, processor_at, actors_of}
+use Rattle.schedule_laws.proofs.Scenes.{Scene, Seat, Lead, AtHandlers, Collecting, LeavingInside, MarkingInsync, Position, Leading as LeadingAt, seat, processor_at, actors_of}
 use Rattle.schedule_laws.proofs.Stations.{Leading, station_of, bit}
 use Rattle.schedule_laws.proofs.Leads.{serves_at}
-use Rattle.schedule_laws.proofs.Invariant.{Context, View, IsCpu, IsWords, IsSession, IsReady, IsFine, IsAim, GoesOn, seat_known, seat_listed, seat_view, mode_of, globe, view}
+use Rattle.schedule_laws.proofs.Invariant.{Context, View, IsCpu, IsWords, IsSession, IsReady, IsFine, IsAim, GoesOn, is_owed, still_owed, seat_known, seat_listed, seat_view, mode_of, globe, view}
 use Rattle.schedule_laws.proofs.Facts.{true_false}
 use Rattle.schedule_laws.proofs.LeadFrames.{at_stage, Reached}
 use Rattle.schedule_laws.proofs.ClosedStages.{served_closed, served_closed_run, served_closed_totals}
 use Rattle.schedule_laws.proofs.SessionFrames.{reframe, open_totals, open_run, resting_job, idle_same, no_aim, turns}
 use Rattle.schedule_laws.proofs.Loops.{Found, found_next}
 use Rattle.schedule_laws.proofs.Counts.{listed_is}
+use Rattle.schedule_laws.proofs.Owes.{owed_on, owed_none}
 use Rattle.schedule_laws.proofs.HandlerFits.{PlaceFits}
 use Rattle.schedule_laws.proofs.HandlerPlaces.{serves_is}
 use Rattle.schedule_laws.proofs.HandlerRows.{RowFits, AtHandOf, free_no_job}
@@ -202,10 +203,10 @@ leaves_open d c l x s m relaxed f idle over =
 
 -- ANOTHER NUMBER OF THE LOOP
 
--- at the stages of serving the number of the loop bears on nobody
+-- at the stages of serving the number of the loop bears on nobody but those whose jobs it goes over
 pub renumbered : (d : SetupData) (c : Context) (k x y : ℕ) (s : Scene) (m : Machine) → k ≢ 10 → k ≢ 11 → k ≢ 15 → k ≢ 16 → k ≢ 17 → k ≢ 18
-    → IsReady d (at_stage c k x) s m → IsReady d (at_stage c k y) s m
-renumbered d c k x y s m n10 n11 n15 n16 n17 n18 f =
+    → ((j : ℕ) → is_owed (at_stage c k y) j ≡ is_owed (at_stage c k x) j) → IsReady d (at_stage c k x) s m → IsReady d (at_stage c k y) s m
+renumbered d c k x y s m n10 n11 n15 n16 n17 n18 same f =
     let z = f.sized in
     let w = f.words in
     let n = f.session in
@@ -229,17 +230,18 @@ renumbered d c k x y s m n10 n11 n15 n16 n17 n18 f =
             peer = λ q. let p = e.peer q in record { station = p.station; walking = p.walking; knows = p.knows; gone = p.gone; listed = p.listed; released_so_far = λ u. absurd (n15 u); released_no_more = λ u. absurd (n15 u); released = p.released; told = p.told; answered = p.answered; ended = p.ended };
           };
       runs = λ j l q. let r = f.runs j l q in record { upto = r.upto; lent = r.lent; so_far = λ u. absurd (n17 u); no_more = λ u. absurd (n17 u); late = r.late };
-      jobs = λ j l q. let i = f.jobs j l q in record { procedure = i.procedure; free = i.free; given = i.given; listed = i.listed };
+      jobs = λ j l q. let i = f.jobs j l q in record { procedure = i.procedure; free = λ u h. i.free u (sym (same j) ∙ h); given = λ u h. i.given u (sym (same j) ∙ h); listed = i.listed };
       idle = λ j l q. let i = f.idle j l q in record { size = i.size; held = i.held; chair = i.chair };
       signals = f.signals;
       busies = f.busies;
     }
 
-at_serving : (b : Bool) (c : Context) (x y : ℕ) (d : SetupData) (s : Scene) (m : Machine) → IsReady d (at_stage c (serves_at b) x) s m → IsReady d (at_stage c (serves_at b) y) s m
-at_serving true c x y d s m f =
-    renumbered d c 4 x y s m (λ u. omega arith) (λ u. omega arith) (λ u. omega arith) (λ u. omega arith) (λ u. omega arith) (λ u. omega arith) f
-at_serving false c x y d s m f =
-    renumbered d c 13 x y s m (λ u. omega arith) (λ u. omega arith) (λ u. omega arith) (λ u. omega arith) (λ u. omega arith) (λ u. omega arith) f
+at_serving : (b : Bool) (c : Context) (x y : ℕ) (d : SetupData) (s : Scene) (m : Machine)
+    → ((j : ℕ) → still_owed y j (has_job (seat_known c j)) ≡ still_owed x j (has_job (seat_known c j))) → IsReady d (at_stage c (serves_at b) x) s m → IsReady d (at_stage c (serves_at b) y) s m
+at_serving true c x y d s m same f =
+    renumbered d c 4 x y s m (λ u. omega arith) (λ u. omega arith) (λ u. omega arith) (λ u. omega arith) (λ u. omega arith) (λ u. omega arith) same f
+at_serving false c x y d s m same f =
+    renumbered d c 13 x y s m (λ u. omega arith) (λ u. omega arith) (λ u. omega arith) (λ u. omega arith) (λ u. omega arith) (λ u. omega arith) same f
 
 serving_aim : (b : Bool) (d : SetupData) (c : Context) (x : ℕ) → IsAim d (at_stage c (serves_at b) x)
 serving_aim true d c x = no_aim d c 4 x (λ u. omega arith) (λ u. omega arith) (λ u. omega arith) (λ u. omega arith) (λ u. omega arith) (λ u. absurd (omega arith))
@@ -257,7 +259,7 @@ serves_high false = omega arith
 
 -- where no job is owed, none is there
 all_idle : (d : SetupData) (c : Context) (x : ℕ) (s : Scene) (m : Machine) → IsReady d (at_stage c (serves_at (is_relaxed d.mode)) x) s m
-    → ((j : ℕ) → j < d.processors → j ≢ c.bsp → has_job (seat_known c j) ≡ false) → (j : ℕ) → j < d.processors → (view s m j).work ≡ 0
+    → ((j : ℕ) → j < d.processors → j ≢ c.bsp → still_owed x j (has_job (seat_known c j)) ≡ false) → (j : ℕ) → j < d.processors → (view s m j).work ≡ 0
 all_idle d c x s m f owed j l =
     ⊎_elim
     (λ (q : j ≡ c.bsp). ((f.each j l).leader q).work)
@@ -272,11 +274,14 @@ pub record IsLeading (c : Context) (s : Scene) (t : Seat) : Type 0 where
   pub blocked : t.blocked ≡ c.blocked
   pub listed : t.listed ≡ c.listed
 
-abbrev pub serving_processor : SetupData → Context → Seat → Desks → Processor
-serving_processor d c t held = record (processor_at d c.bsp (LeadingAt AtHandlers) t) { chair = Some c.chair; held = held }
+abbrev pub leading_processor : SetupData → Context → Seat → Lead → Desks → Processor
+leading_processor d c t lead held = record (processor_at d c.bsp (LeadingAt lead) t) { chair = Some c.chair; held = held }
 
-module _ (d : SetupData) (c : Context) (x : ℕ) (s : Scene) (m : Machine) (t : Seat) (from : ℕ) (f : IsReady d (at_stage c (serves_at (is_relaxed d.mode)) x) s m) (over : IsOver c.chair.course.place) (at : IsLeading c s t)
-    (own : get_or c.held c.bsp None ≡ get_or t.held c.bsp None) (idle : has_job (seat_known c c.bsp) ≡ false) (before : (j : ℕ) → j < from → j ≢ c.bsp → has_job (seat_known c j) ≡ false) where
+abbrev pub serving_processor : SetupData → Context → Seat → Desks → Processor
+serving_processor d c t held = leading_processor d c t AtHandlers held
+
+module _ (d : SetupData) (c : Context) (s : Scene) (m : Machine) (t : Seat) (lead : Lead) (from : ℕ) (f : IsReady d (at_stage c (serves_at (is_relaxed d.mode)) from) s m) (over : IsOver c.chair.course.place)
+    (at : IsLeading c s t) (own : get_or c.held c.bsp None ≡ get_or t.held c.bsp None) (idle : has_job (seat_known c c.bsp) ≡ false) where
   abbrev after : Processor → Type 0
   after p = IsFine d (record { words = s.words; lying = s.lying; actors = slice_set (actors_of d s) c.bsp (OfProcessor p) }) m
 
@@ -284,12 +289,12 @@ module _ (d : SetupData) (c : Context) (x : ℕ) (s : Scene) (m : Machine) (t : 
   sees p l = ap (λ (o : Option Desk). record { station = Leading; knows = t.bsp; visits = t.visits; own = o; registers = t.registers; last = t.last }) own
 
   collects : (j : ℕ) → (from ≤ j) × (j < d.processors) × (has_job (seat_known c j) ≡ true) × ((i : ℕ) → from ≤ i → i < j → has_job (seat_known c i) ≡ false)
-      → after (between (row.CollectJob j) (serving_processor d c t c.held))
+      → after (between (row.CollectJob j) (leading_processor d c t lead c.held))
   collects j k =
       let r : Reached d c s m (Collecting j) = record {
         stage = serves_at (is_relaxed d.mode);
         next = j;
-        ready = at_serving (is_relaxed d.mode) c x j d s m f;
+        ready = at_serving (is_relaxed d.mode) c from j d s m (λ i. owed_on from j i (has_job (seat_known c i)) k.0 (k.3 i)) f;
         aim = serving_aim (is_relaxed d.mode) d c j;
         is_stage = refl;
         is_next = refl;
@@ -301,20 +306,19 @@ module _ (d : SetupData) (c : Context) (x : ℕ) (s : Scene) (m : Machine) (t : 
           next = k.1;
           other = λ q. true_false (has_job (seat_known c j)) k.2 (subst (λ (i : ℕ). has_job (seat_known c i) ≡ false) (sym q) idle);
           owed = k.2;
-          before = λ i l n.
-              ⊎_elim (λ (a : i < from). before i a n) (λ (a : from ≤ i). k.3 i a l) (cases_lt i from);
+          own = idle;
         };
         early = λ z. absurd (let h = serves_high (is_relaxed d.mode) in omega (arith, z, h));
       } in
       turns d c s s.words s.lying m t (record t { position = LeadingAt (Collecting j); held = c.held; chair = Some c.chair }) (Collecting j) r at.seat_is at.leads refl (sees (LeadingAt (Collecting j)) t.listed)
       (record { wave = at.wave; blocked = at.blocked; listed = at.listed; held = refl; chair = refl })
 
-  goes_on_at : (mode : Mode) → d.mode ≡ mode → ((j : ℕ) → j < d.processors → j ≢ c.bsp → has_job (seat_known c j) ≡ false)
-      → after (go_on (after_jobs mode) (serving_processor d c t c.held))
+  goes_on_at : (mode : Mode) → d.mode ≡ mode → ((j : ℕ) → j < d.processors → j ≢ c.bsp → still_owed from j (has_job (seat_known c j)) ≡ false)
+      → after (go_on (after_jobs mode) (leading_processor d c t lead c.held))
   goes_on_at Traditional is owed =
       let trad : is_relaxed d.mode ≡ false = ap is_relaxed is in
       let ready : IsReady d (at_stage c 14 0) s m =
-      leaves_closed d c x s m trad (subst (λ (b : Bool). IsReady d (at_stage c (serves_at b) x) s m) trad f) (all_idle d c x s m f owed) over in
+      leaves_closed d c from s m trad (subst (λ (b : Bool). IsReady d (at_stage c (serves_at b) from) s m) trad f) (all_idle d c from s m f owed) over in
       let r : Reached d c s m LeavingInside = record {
         stage = 14;
         next = 0;
@@ -334,7 +338,7 @@ module _ (d : SetupData) (c : Context) (x : ℕ) (s : Scene) (m : Machine) (t : 
       let relaxed : is_relaxed d.mode ≡ true = ap is_relaxed is in
       let l : List Bool = desks_held c.held in
       let ready : IsReady d (at_stage (listing c l) 8 0) s m =
-      leaves_open d c l x s m relaxed (subst (λ (b : Bool). IsReady d (at_stage c (serves_at b) x) s m) relaxed f) (all_idle d c x s m f owed) over in
+      leaves_open d c l from s m relaxed (subst (λ (b : Bool). IsReady d (at_stage c (serves_at b) from) s m) relaxed f) (all_idle d c from s m f owed) over in
       let r : Reached d (listing c l) s m MarkingInsync = record {
         stage = 8;
         next = 0;
@@ -360,12 +364,12 @@ module _ (d : SetupData) (c : Context) (x : ℕ) (s : Scene) (m : Machine) (t : 
       (record { wave = at.wave; blocked = at.blocked; listed = refl; held = refl; chair = refl })
 
   -- the jobs that are left are collected, and after them the session goes on
-  pub ended : after (go_on (row_or row.CollectJob (after_jobs d.mode) (next_below d.processors (owes_job (Some c.chair)) from)) (serving_processor d c t c.held))
+  pub ended : after (go_on (row_or row.CollectJob (after_jobs d.mode) (next_below d.processors (owes_job (Some c.chair)) from)) (leading_processor d c t lead c.held))
   ended = by_found (next_below d.processors (owes_job (Some c.chair)) from) (found_next d.processors (owes_job (Some c.chair)) from)
     where
-      by_found : (o : Option ℕ) → Found (owes_job (Some c.chair)) from d.processors o → after (go_on (row_or row.CollectJob (after_jobs d.mode) o) (serving_processor d c t c.held))
+      by_found : (o : Option ℕ) → Found (owes_job (Some c.chair)) from d.processors o → after (go_on (row_or row.CollectJob (after_jobs d.mode) o) (leading_processor d c t lead c.held))
       by_found None e =
-          goes_on_at d.mode refl (λ j l n. ⊎_elim (λ (a : j < from). before j a n) (λ (a : from ≤ j). e j a l) (cases_lt j from))
+          goes_on_at d.mode refl (λ j l n. owed_none from j (has_job (seat_known c j)) (λ a. e j a l))
       by_found (Some j) e = collects j e
 
 -- THE NEXT ROW
@@ -458,5 +462,5 @@ next_told d c s m t a at own =
     (λ (over : GoesOn p → ⊥).
     let end : r ≡ told.Finished = no_need r (need_is ∙ done.1 over) in
     subst (λ (y : Row). P (can_serve d.processors y (handed_as y c.held)) (handed_as y c.held)) (sym end)
-    (ended d c 0 s m t 0 a.ready over at own (free_no_job (seat_known c c.bsp) (a.sound.idle c.bsp a.sound.mine)) (λ j l. absurd (omega arith))))
+    (ended d c s m t AtHandlers 0 a.ready over at own (free_no_job (seat_known c c.bsp) (a.sound.idle c.bsp a.sound.mine))))
     (more_or_over p.kinds p.walks p.begun)

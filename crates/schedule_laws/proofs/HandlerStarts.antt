@@ -10,12 +10,12 @@ use Rattle.handler_ops.specs.declared.desk.Desk.{Desk}
 use Rattle.handler_ops.specs.declared.desk.Job.{Job}
 use Rattle.handler_ops.specs.declared.row.Row.{Row}
 use Rattle.handler_ops.specs.declared.row.Row.TheVariants as told
-use Rattle.handler_ops.specs.declared.seat.Seat.{Seat as JobSeat}
-use Rattle.handler_ops.specs.declared.seat.Seat.TheVariants.{Free, Open}
-use Rattle.handler_ops.specs.Serving.{IsFree, IsDone, HasOpen}
-use Rattle.handler_ops.specs.Forms.{Own}
-use Rattle.handler_ops.specs.Beginning.{program_of}
-use Rattle.handler_ops.specs.Places.{Place, Accepts, next}
+use Rattle.serving_place.specs.declared.seat.Seat.{Seat as JobSeat}
+use Rattle.serving_place.specs.declared.seat.Seat.TheVariants.{Free, Open}
+use Rattle.serving_place.specs.Serving.{IsFree, IsDone, HasOpen}
+use Rattle.serving_place.specs.Forms.{Own}
+use Rattle.serving_place.specs.Beginning.{program_of}
+use Rattle.serving_place.specs.Places.{Place, Accepts, next}
 use Rattle.handler_ops.specs.Course.{Desks, desk_of, has_job, is_held}
 use Rattle.handler_ops.specs.Conditions.{IsSound}
 use Rattle.handler_ops.specs.Sessions.{Session as Chair}

@@ -10,12 +10,12 @@ use Rattle.sync_words.specs.declared.label.Label.{Label}
 use Rattle.handler_ops.specs.declared.desk.Desk.{Desk}
 use Rattle.handler_ops.specs.declared.row.Row.{Row}
 use Rattle.handler_ops.specs.declared.row.Row.TheVariants as told
-use Rattle.handler_ops.specs.declared.seat.Seat.{Seat as JobSeat}
-use Rattle.handler_ops.specs.Serving.{HasOpen}
-use Rattle.handler_ops.specs.Operations.{register_of}
-use Rattle.handler_ops.specs.Forms.{Event, Own}
-use Rattle.handler_ops.specs.Beginning.{program_of}
-use Rattle.handler_ops.specs.Places.{Place, Accepts, next}
+use Rattle.serving_place.specs.declared.seat.Seat.{Seat as JobSeat}
+use Rattle.serving_place.specs.Serving.{HasOpen}
+use Rattle.serving_place.specs.Operations.{register_of}
+use Rattle.serving_place.specs.Forms.{Event, Own}
+use Rattle.serving_place.specs.Beginning.{program_of}
+use Rattle.serving_place.specs.Places.{Place, Accepts, next}
 use Rattle.handler_ops.specs.Course.{Desks, desk_of, has_job, image_in, is_held, low_bytes, write_of}
 use Rattle.handler_ops.specs.Conditions.{IsSound}
 use Rattle.handler_ops.specs.Sessions.{Session as Chair}

@@ -1,4 +1,4 @@
--- The turns of the BSP while it serves, row by row; those rows that aren't proved yet are asked for.
+-- The turns of the BSP while it serves, row by row.
 use Rattle.std.proofs.Common.{ℕ, ◌≡◌, ◌≢◌, ◌<◌, arith, Some, get_or, None, refl, sym, ap, subst, ⊎_elim, ◌∙◌}
 use Rattle.std.proofs.lemmas.Bool.{cases_eq}
 use Rattle.cpu_table.specs.Data.{SetupData}
@@ -28,12 +28,9 @@ use Rattle.schedule_laws.proofs.HandlerPuts.{putting}
 use Rattle.schedule_laws.proofs.HandlerClaims.{desk_claimed}
 use Rattle.schedule_laws.proofs.HandlerJobs.{job_claimed, job_awaited}
 use Rattle.schedule_laws.proofs.HandlerStarts.{raising}
+use Rattle.schedule_laws.proofs.HandlerWrites.{writing}
 
--- the row that is still to be proved: an image is written
-pub record OwedRows (d : SetupData) : Type 0 where
-  pub writing : (c : Context) (s : Scene) (m : Machine) (t : Seat) (x reg width v : ℕ) → IsTold d c s m t (told.Writing x reg width v) → RowKept d c s m t (told.Writing x reg width v)
-
-module _ (d : SetupData) (owed : OwedRows d) where
+module _ (d : SetupData) where
   row_kept : (c : Context) (s : Scene) (m : Machine) (t : Seat) (r : Row) → Holds d (at_stage c (serves_at (is_relaxed d.mode)) 0) s m → IsTold d c s m t r → RowKept d c s m t r
   row_kept c s m t told.Finished k h = stays d (at_stage c (serves_at (is_relaxed d.mode)) 0) s m k
   row_kept c s m t (told.Looking l) k h = looking d c s m t l h
@@ -51,7 +48,7 @@ module _ (d : SetupData) (owed : OwedRows d) where
   row_kept c s m t (told.Putting x) k h = putting d c s m t x h
   row_kept c s m t (told.Raising x l) k h = raising d c s m t x l h
   row_kept c s m t (told.Reading x reg width) k h = reading d c s m t x reg width h
-  row_kept c s m t (told.Writing x reg width v) k h = owed.writing c s m t x reg width v h
+  row_kept c s m t (told.Writing x reg width v) k h = writing d c s m t x reg width v h
   row_kept c s m t (told.Allocating n) k h = allocating d c s m t n h
   row_kept c s m t (told.Freeing n) k h = freeing d c s m t n h
 

@@ -1,6 +1,6 @@
 -- What holds of the world and the machine between any two steps: of the words and their sums, of the session by how far its BSP is, and
 -- of each processor by where it stands.
-use Rattle.std.proofs.Common.{ℕ, ◌+◌, ◌-◌, ◌*◌, ◌%◌, ◌≡◌, ◌≢◌, ◌<◌, ◌≤◌, Bool, true, false, eqb, List, [], ◌∷◌, length, get_or, Option, Some, None}
+use Rattle.std.proofs.Common.{ℕ, zero, suc, ◌+◌, ◌-◌, ◌*◌, ◌%◌, ◌≡◌, ◌≢◌, ◌<◌, ◌≤◌, Bool, true, false, eqb, List, [], ◌∷◌, length, get_or, Option, Some, None}
 use Rattle.std.specs.Prelude.{◌==◌, if◌then◌else◌, is_some, IsSomeAnd}
 use Rattle.smm_base.specs.declared.kinds.Policy.{Policy}
 use Rattle.smm_base.specs.declared.kinds.Policy.TheVariants.{Elected, Fixed}
@@ -296,12 +296,22 @@ seat_listed c j = serving.seat c.place.state j
 abbrev pub GoesOn : Place → Type 0
 GoesOn p = HasMore p.kinds p.walks p.begun
 
--- The job of an AP: it is one of the platform's procedures; while the handlers serve the server owes it exactly where the machine has it,
--- by its number; and while serving goes on the machine's list has it run where it was run.
+-- Whether a job is still owed. The BSP collects the jobs after its handlers by number, and the server isn't told of it: those below the
+-- number that it is at are collected.
+abbrev pub still_owed : ℕ → ℕ → Bool → Bool
+still_owed zero j owed = owed
+still_owed (suc n) zero owed = false
+still_owed (suc n) (suc j) owed = still_owed n j owed
+
+abbrev pub is_owed : Context → ℕ → Bool
+is_owed c j = still_owed c.next j (has_job (seat_known c j))
+
+-- The job of an AP: it is one of the platform's procedures; while the handlers serve, and as the jobs are collected after them, it is
+-- owed exactly where the machine has it, by its number; and while serving goes on the machine's list has it run where it was run.
 pub record IsJobOf (d : SetupData) (c : Context) (j : ℕ) (job : Option Job) : Type 0 where
   pub procedure : 1 ≤ work_of job → IsSomeAnd job (λ x. x.procedure < length d.procedures)
-  pub free : c.stage ≡ serves_from (mode_of d) → has_job (seat_known c j) ≡ false → work_of job ≡ 0
-  pub given : c.stage ≡ serves_from (mode_of d) → has_job (seat_known c j) ≡ true → IsSomeAnd job (λ x. HasOpen (seat_known c j) x.number)
+  pub free : c.stage ≡ serves_from (mode_of d) → is_owed c j ≡ false → work_of job ≡ 0
+  pub given : c.stage ≡ serves_from (mode_of d) → is_owed c j ≡ true → IsSomeAnd job (λ x. HasOpen (seat_known c j) x.number)
   pub listed : c.stage ≡ serves_from (mode_of d) → GoesOn c.chair.course.place → seat_listed c j ≡ with_done job (seat_known c j)
 
 -- the place at which the serving of a wave begins
@@ -339,13 +349,13 @@ pub record IsServing (d : SetupData) (c : Context) : Type 0 where
   pub sound : IsSound (setting d c.bsp) (is_held c.held) c.chair.course.place.state
   pub told : c.chair.told ≡ row_of (setting d c.bsp) c.held c.chair.course
 
--- jobs are collected after the handlers: the next one is another processor's, which has one
+-- jobs are collected after the handlers: the next one is another processor's, which has one; the BSP has none
 pub record IsCollecting (d : SetupData) (c : Context) : Type 0 where
   pub over : IsOver c.chair.course.place
   pub next : c.next < d.processors
   pub other : c.next ≢ c.bsp
   pub owed : has_job (seat_known c c.next) ≡ true
-  pub before : (j : ℕ) → j < c.next → j ≢ c.bsp → has_job (seat_known c j) ≡ false
+  pub own : has_job (seat_known c c.bsp) ≡ false
 
 -- SUMS
 

@@ -8,8 +8,8 @@ use Rattle.cpu_table.specs.Data.{SetupData}
 use Rattle.handler_ops.specs.declared.desk.Desk.{Desk}
 use Rattle.handler_ops.specs.declared.desk.Job.{Job}
 use Rattle.handler_ops.specs.Course.{Desks}
-use Rattle.handler_ops.specs.Forms.{Event}
-use Rattle.handler_ops.specs.Places.{Place}
+use Rattle.serving_place.specs.Forms.{Event}
+use Rattle.serving_place.specs.Places.{Place}
 use Rattle.handler_ops.specs.Sessions.{Session as Chair}
 use Rattle.cpu_program.specs.Processors.{is_relaxed}
 use Rattle.rendezvous_machine.specs.Machines.{Machine, Member, member, nobody}

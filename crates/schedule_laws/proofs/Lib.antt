@@ -29,6 +29,7 @@ pub mod Loops
 pub mod Counts
 pub mod GatherLooks
 pub mod Closes
+pub mod Owes
 pub mod HandlerLandings
 pub mod HandlerFrames
 pub mod HandlerLooks
@@ -50,4 +51,6 @@ pub mod HandlerRaises
 pub mod JobDesks
 pub mod HandlerJobs
 pub mod HandlerStarts
+pub mod Collects
 pub mod Turns
+pub mod AllSchedules

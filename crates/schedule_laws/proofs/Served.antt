@@ -19,19 +19,24 @@ pub some_map : {A : Type 0} (o : Option A) (P Q : A → Type 0) → IsSomeAnd o 
 some_map {A} None P Q h f = absurd h
 some_map {A} (Some x) P Q h f = f x h
 
-over_listed : (known listed : Place) → IsListed known listed → IsOver known → IsOver listed
+pub over_listed : (known listed : Place) → IsListed known listed → IsOver known → IsOver listed
 over_listed known listed h over = subst IsOver (sym h.same) over
 
-pub is_served : (d : SetupData) (c : Context) (s : Scene) (m : Machine) → IsReady d c s m → serves_from (mode_of d) < c.stage → 3 ≤ c.stage → IsServed d m c.session
-is_served d c s m g a b =
+-- the machine's list is whole where the server is over
+pub served_over : (d : SetupData) (c : Context) (s : Scene) (m : Machine) → IsReady d c s m → serves_from (mode_of d) ≤ c.stage → 3 ≤ c.stage → IsOver c.chair.course.place
+    → IsServed d m c.session
+served_over d c s m g a b known =
     let course = g.course in
-    let over : IsOver c.place = over_listed c.chair.course.place c.place (course.listed (omega arith)) (course.over a) in
+    let over : IsOver c.place = over_listed c.chair.course.place c.place (course.listed a) known in
     let first : Place = first_place d c.wave m.registrations m.pool in
     some_and c.session.served c.wave (λ w. IsSomeAnd c.session.serving (λ es. IsWhole (program_of d) w (walks_of d.waves w) (first_serving d m) es)) (g.session.served b)
-    (some_map c.session.serving (λ said. Leads (program_of d) first said c.place) (λ es. IsWhole (program_of d) c.wave (walks_of d.waves c.wave) (first_serving d m) es) (course.led (omega arith))
+    (some_map c.session.serving (λ said. Leads (program_of d) first said c.place) (λ es. IsWhole (program_of d) c.wave (walks_of d.waves c.wave) (first_serving d m) es) (course.led a)
     (λ es led.
     (ends_whole (program_of d) c.wave (walks_of d.waves c.wave) (first_serving d m) c.place es
     (stands_along (program_of d) c.wave (walks_of d.waves c.wave) (first_serving d m) first [] es c.place (begins (program_of d) c.wave (walks_of d.waves c.wave) (first_serving d m)) led)).0 over))
+
+pub is_served : (d : SetupData) (c : Context) (s : Scene) (m : Machine) → IsReady d c s m → serves_from (mode_of d) < c.stage → 3 ≤ c.stage → IsServed d m c.session
+is_served d c s m g a b = served_over d c s m g (omega arith) b (g.course.over a)
 
 -- the place that stands for the list
 place_led : (d : SetupData) (m : Machine) (w : ℕ) (p : Place) (o : Option (List Event)) → IsSomeAnd o (λ said. Leads (program_of d) (first_place d w m.registrations m.pool) said p)

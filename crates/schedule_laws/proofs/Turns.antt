@@ -1,4 +1,4 @@
--- Each turn of a processor, position by position; those that aren't proved yet are asked for.
+-- Each turn of a processor, position by position.
 use Rattle.std.proofs.Common.{ℕ, ◌≡◌, ◌<◌, refl}
 use Rattle.cpu_table.specs.Data.{SetupData}
 use Rattle.rendezvous_machine.specs.Machines.{Machine}
@@ -19,19 +19,15 @@ use Rattle.schedule_laws.proofs.Releases.{release, dismiss}
 use Rattle.schedule_laws.proofs.Endings.{give_chair, leave_insync, unlock_counter}
 use Rattle.schedule_laws.proofs.Schedules.{AllTurnsKept}
 use Rattle.schedule_laws.proofs.HandlerBegins.{begin_to_serve}
-use Rattle.schedule_laws.proofs.Handlers.{OwedRows, at_handlers}
+use Rattle.schedule_laws.proofs.Handlers.{at_handlers}
+use Rattle.schedule_laws.proofs.Collects.{collect}
 
 -- a turn of the BSP at this position keeps what holds
 abbrev pub LeadKept : SetupData → Lead → Type 0
 LeadKept d lead =
     (c : Context) (i : ℕ) (s : Scene) (m : Machine) (t : Seat) → Holds d c s m → i < d.processors → seat s i ≡ t → t.position ≡ Leading lead → KeptAt d s m i t (Leading lead)
 
--- the turns that are still to be proved: three rows of serving, and the collecting of a job after it
-pub record OwedTurns (d : SetupData) : Type 0 where
-  pub rows : OwedRows d
-  pub collect : (j : ℕ) → LeadKept d (Collecting j)
-
-module _ (d : SetupData) (owed : OwedTurns d) where
+module _ (d : SetupData) where
   lead_kept : (lead : Lead) → LeadKept d lead
   lead_kept MarkingInside c i s m t f l e q = mark_inside d c i s m t f l e q
   lead_kept TakingSource c i s m t f l e q = take_source d c i s m t f l e q
@@ -45,8 +41,8 @@ module _ (d : SetupData) (owed : OwedTurns d) where
   lead_kept (AwaitingReports left) c i s m t f l e q = await_reports d c i s m t left f l e q
   lead_kept (TakingDesk j) c i s m t f l e q = take_desk d c i s m t j f l e q
   lead_kept BeginningToServe c i s m t f l e q = begin_to_serve d c i s m t f l e q
-  lead_kept AtHandlers c i s m t f l e q = at_handlers d owed.rows c i s m t f l e q
-  lead_kept (Collecting j) c i s m t f l e q = owed.collect j c i s m t f l e q
+  lead_kept AtHandlers c i s m t f l e q = at_handlers d c i s m t f l e q
+  lead_kept (Collecting j) c i s m t f l e q = collect d c i s m t j f l e q
   lead_kept LeavingInside c i s m t f l e q = leave_inside d c i s m t f l e q
   lead_kept (Releasing j) c i s m t f l e q = release d c i s m t j f l e q
   lead_kept (AwaitingReleased left) c i s m t f l e q = await_released d c i s m t left f l e q

@@ -16,7 +16,6 @@ use Rattle.serving_place.specs.Serving as serving
 use Rattle.serving_place.specs.Forms.{Event, Ran}
 use Rattle.serving_place.specs.Beginning.{program_of}
 use Rattle.serving_place.specs.Places.{OpenWalk, Begun, Place, next}
-use Rattle.handler_ops.specs.Course.{has_job}
 use Rattle.handler_ops.specs.Procedures.{job_on, desk_with}
 use Rattle.serving_place.specs.Stands.{Leads}
 use Rattle.cpu_program.specs.declared.cargo.Cargo.{Cargo}
@@ -31,7 +30,7 @@ use Rattle.schedule_laws.proofs.Scenes.{Scene, Seat, GivingBack, AwaitingRelease
 use Rattle.schedule_laws.proofs.Stations.{station_of, work_of}
 use Rattle.schedule_laws.proofs.Stations as stations
 use Rattle.schedule_laws.proofs.Leads.{serves_stage}
-use Rattle.schedule_laws.proofs.Invariant.{Context, View, IsCpu, IsTotals, IsSession, IsAim, IsLead, IsAt, IsBeginning, IsServing, IsCollecting, IsWords, IsCourse, IsListed, IsJobOf, IsIdle, IsRunOf, IsBusy, IsSized, GoesOn, Holds, IsFine, KeptAt, begins_from, serves_from, mode_of, desk_at, first_place, globe, with_done, by_done, seat_known, seat_listed, sizes, view, view_at, view_of, seat_view, locked}
+use Rattle.schedule_laws.proofs.Invariant.{Context, View, IsCpu, IsTotals, IsSession, IsAim, IsLead, IsAt, IsBeginning, IsServing, IsCollecting, IsWords, IsCourse, IsListed, IsJobOf, IsIdle, IsRunOf, IsBusy, IsSized, GoesOn, Holds, IsFine, KeptAt, begins_from, serves_from, mode_of, desk_at, first_place, globe, with_done, by_done, is_owed, seat_known, seat_listed, sizes, view, view_at, view_of, seat_view, locked}
 use Rattle.schedule_laws.proofs.Frames.{IsAround, IsMover, mover, around, peers_move, own_at, run_of, view_is, seat_set, seated, keeps_own, keeps_idle, busies_set, signals_more, mode_le}
 use Rattle.schedule_laws.proofs.Facts.{work_unreleased}
 use Rattle.schedule_laws.proofs.ImageKinds.{run_kind}
@@ -75,7 +74,7 @@ relisted_at d c said p m t leads h =
         no_chair = k.no_chair;
         begins = λ z. let y = k.begins z in record { course = y.course; told = y.told };
         serves = λ z. let y = k.serves z in record { goes_on = y.goes_on; fits = y.fits; own = leads ∙ y.own; sound = y.sound; told = y.told };
-        collects = λ z. let y = k.collects z in record { over = y.over; next = y.next; other = y.other; owed = y.owed; before = y.before };
+        collects = λ z. let y = k.collects z in record { over = y.over; next = y.next; other = y.other; owed = y.owed; own = y.own };
       };
     }
 
@@ -242,7 +241,7 @@ record IsRunJob (d : SetupData) (c : Context) (i : ℕ) (job : Job) : Type 0 whe
   given : HasOpen (seat_known c i) job.number
 
 ran_job : (d : SetupData) (c : Context) (said : Option (List Event)) (p : Place) (i : ℕ) (job : Job) (answer : ℕ × Status) (o : Option Job)
-    → o ≡ Some (record job { done = Some answer }) → IsRunJob d c i job → (has_job (seat_known c i) ≡ false → ⊥)
+    → o ≡ Some (record job { done = Some answer }) → IsRunJob d c i job → (is_owed c i ≡ false → ⊥)
     → (GoesOn c.chair.course.place → serving.seat p.state i ≡ run_at (seat_known c i) answer.0 answer.1) → IsJobOf d (relisted c said p) i o
 ran_job d c said p i job answer o e h busy listed =
     subst (λ (y : Option Job). IsJobOf d (relisted c said p) i y) (sym e)
@@ -296,8 +295,8 @@ give_back d c i s m t f l e q =
     let job = g.jobs i l nb in
     let some_work : 1 ≤ work_of (member m i).job = omega arith in
     let procedure : J.job.procedure < length d.procedures = subst (λ (o : Option Job). IsSomeAnd o (λ y. y.procedure < length d.procedures)) J.is (job.procedure some_work) in
-    let busy : has_job (seat_known c i) ≡ false → ⊥ = (λ z. let y = job.free st z in omega arith) in
-    let owed : has_job (seat_known c i) ≡ true = ⊎_elim (λ (a : has_job (seat_known c i) ≡ true). a) (λ (a : has_job (seat_known c i) ≡ false). absurd (busy a)) (cases_Bool (has_job (seat_known c i))) in
+    let busy : is_owed c i ≡ false → ⊥ = (λ z. let y = job.free st z in omega arith) in
+    let owed : is_owed c i ≡ true = ⊎_elim (λ (a : is_owed c i ≡ true). a) (λ (a : is_owed c i ≡ false). absurd (busy a)) (cases_Bool (is_owed c i)) in
     let open_known : HasOpen (seat_known c i) J.job.number = subst (λ (o : Option Job). IsSomeAnd o (λ y. HasOpen (seat_known c i) y.number)) J.is (job.given st owed) in
     let run_job : IsRunJob d c i J.job = record { procedure = procedure; given = open_known } in
     let can : can_run d J.job ≡ true = rw (J.undone, lt-ltb J.job.procedure (length d.procedures) procedure) refl in

@@ -1,3 +1,7 @@
-// On the way to the law of every schedule on platforms of any number of processors: the invariant of the world and the machine,
-// and lemmas that turns keep it. There is no code.
+// The law of every schedule: on each platform, of any number of processors, the labels of its replay are a run of the
+// rendezvous machine, and the images after are the machine's last resumed ones. It does nothing when it runs.
 #![tactic(auto)]
+
+mod every;
+
+pub use every::every_schedule;
