@@ -34,6 +34,13 @@ impl FreeList {
         Ok(FreeList { places, size })
     }
 
+    /// The block at the front.
+    pub fn first(&self) -> Option<u64>
+        ensures { result ≡ first self.now.places }
+    {
+        self.places.last().copied()
+    }
+
     /// Takes the block at the front.
     pub fn take_first(&mut self) -> Option<u64>
         ensures first { result ≡ first self.old.places }

@@ -5,7 +5,9 @@ use crate::PoolError;
 use crate::flags::fill;
 use crate::free_list::FreeList;
 use crate::marks::{mark_at, page_of, unit_of};
-use crate::taking::{class_for, pages_for, put_in, take_block, take_pages};
+use crate::taking::{
+    class_for, pages_for, place_of_block, place_of_pages, put_in, take_block, take_pages,
+};
 use smm_base::NoMemory;
 use std::alloc::Global;
 use std::marker::Model;
@@ -148,6 +150,32 @@ impl Pool {
         }
     }
 
+    /// What `alloc` would answer.
+    pub fn alloc_answer(&self, size: u64) -> Result<u64, PoolError>
+        ensures { result ≡ (allocated size self.now).0 }
+    {
+        if size == 0 {
+            return Err(PoolError::Zero);
+        }
+        if size <= 2048 {
+            return self.class_answer(class_for(size));
+        }
+        self.run_answer(pages_for(size))
+    }
+
+    /// What `free` would answer.
+    pub fn free_answer(&self, place: u64) -> Result<(), PoolError>
+        ensures { result ≡ (freed place self.now).0 }
+    {
+        match self.live_class(place) {
+            Some(_) => Ok(()),
+            None => match self.live_count(place) {
+                Some(_) => Ok(()),
+                None => Err(PoolError::NotABlock(place)),
+            },
+        }
+    }
+
     /// Takes the run of `count` free pages with the lowest address and gives that address.
     /// `Zero` where the count is 0; `OutOfResources` where no run of so many pages is free. A refusal changes nothing.
     pub fn alloc_pages(&mut self, count: u32) -> Result<u64, PoolError>
@@ -200,6 +228,29 @@ impl Pool {
         match page_of(self.start, place) {
             Some(page) => mark_at(self.runs.as_slice(), page),
             None => None,
+        }
+    }
+
+    /// What the request of a block of a class would answer.
+    fn class_answer(&self, class: u32) -> Result<u64, PoolError>
+        requires { IsClass class }
+        ensures { result ≡ (block_allocated class self.now (block_taken class self.now.blocks self.now.free_pages)).0 }
+    {
+        let lists = &self.lists;
+        match place_of_block(lists, self.free.as_slice(), self.start, class) {
+            Some(place) => Ok(place),
+            None => Err(PoolError::OutOfResources),
+        }
+    }
+
+    /// What the request of so many pages would answer.
+    fn run_answer(&self, count: u64) -> Result<u64, PoolError>
+        requires { 0 < count }
+        ensures { result ≡ (run_allocated count self.now (run_taken count self.now.free_pages)).0 }
+    {
+        match place_of_pages(self.free.as_slice(), self.start, count as usize) {
+            Some(place) => Ok(place),
+            None => Err(PoolError::OutOfResources),
         }
     }
 

@@ -51,6 +51,36 @@ pub fn pages_for(size: u64) -> u64
     (size - 1) / 4096 + 1
 }
 
+/// The place of the first run of so many free pages.
+pub fn place_of_pages(free: &[bool], start: u64, count: usize) -> Option<u64>
+    requires some { 0 < count }
+    requires low { start < 2 ^ 63 }
+    requires few { length free.now ≤ 2048 }
+    ensures { result ≡ run_place (run_taken count (free_from start free.now)) }
+{
+    match find_run(free, count) {
+        Some(index) => Some(start + 4096 * index as u64),
+        None => None,
+    }
+}
+
+/// The place of the block that a request of this class takes: the first of its list, or the lower half of a larger one.
+pub fn place_of_block(lists: &[FreeList], free: &[bool], start: u64, halvings: u32) -> Option<u64>
+    requires class { halvings ≤ 6 }
+    requires shelves { AreShelves (length free.now) lists.now }
+    requires low { start < 2 ^ 63 }
+    requires few { length free.now ≤ 2048 }
+    ensures { result ≡ place_taken (block_taken halvings (lists_of lists.now) (free_from start free.now)) }
+{
+    if halvings == 0 {
+        return place_of_pages(free, start, 1);
+    }
+    match lists[halvings as usize - 1].first() {
+        Some(place) => Some(place),
+        None => place_of_block(lists, free, start, halvings - 1),
+    }
+}
+
 /// Takes the first run of so many free pages.
 pub fn take_pages(free: &mut [bool], start: u64, count: usize) -> Option<u64>
     requires some { 0 < count }
