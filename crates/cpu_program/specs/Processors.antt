@@ -34,7 +34,7 @@ use Rattle.handler_ops.specs.declared.desk.Job.{Job}
 use Rattle.handler_ops.specs.declared.need.Need.{Need}
 use Rattle.handler_ops.specs.declared.need.Need.TheVariants as need
 use Rattle.handler_ops.specs.declared.row.Row.{Row as ServerRow}
-use Rattle.handler_ops.specs.Serving.{seat}
+use Rattle.serving_place.specs.Serving.{seat}
 use Rattle.handler_ops.specs.Course.{is_held, desk_of, label_of, has_job}
 use Rattle.handler_ops.specs.Sessions.{Session, begun_session}
 use Rattle.handler_ops.specs.Told.{need_as, handed_as}

@@ -4,13 +4,14 @@ use Rattle.smm_base.specs.declared.status.Status.{Status}
 use Rattle.cpu_table.specs.declared.handlers.OpDef.{OpDef}
 use Rattle.sync_words.specs.declared.label.Label.TheVariants as say
 use Rattle.handler_ops.specs.declared.desk.Desk.{Desk}
-use Rattle.handler_ops.specs.Serving.{Serving}
-use Rattle.handler_ops.specs.Forms.{Program, Own}
-use Rattle.handler_ops.specs.Places.{Place, next}
-use Rattle.handler_ops.specs.Course.{Setting, Desks, JobDone, done_job, done_on, after_all, with_run}
+use Rattle.serving_place.specs.Serving.{Serving}
+use Rattle.serving_place.specs.Forms.{Program, Own}
+use Rattle.serving_place.specs.Places.{Place, next}
+use Rattle.serving_place.specs.Setting.{Setting}
+use Rattle.handler_ops.specs.Course.{Desks, JobDone, done_job, done_on, after_all, with_run}
 use Rattle.handler_ops.specs.Told.{read_at_hand, write_at_hand}
 use Rattle.handler_ops.specs.Answering.{job_on, ran_by}
-use Rattle.handler_ops.specs.Sayings.{Known, Fits}
+use Rattle.serving_place.specs.Sayings.{Known, Fits}
 
 pub done_is : (d : Option Desk) → done_on d ≡ done_job (job_on d)
 done_is None = refl

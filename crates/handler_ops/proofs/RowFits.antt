@@ -14,11 +14,14 @@ use Rattle.sync_words.specs.declared.label.Label.TheVariants as say
 use Rattle.handler_registry.specs.Registrations.{is_full}
 use Rattle.handler_ops.specs.declared.row.Row.{Row}
 use Rattle.handler_ops.specs.declared.row.Row.TheVariants as row
-use Rattle.handler_ops.specs.Serving.{Serving, TokenState, NotOut, Uncollected, Collected, number, seat, token_of}
-use Rattle.handler_ops.specs.Operations.{procedure_place}
-use Rattle.handler_ops.specs.Course.{Setting, Course, Desks, Reach, Outside, AtHand, Working, Elsewhere, Due, Nothing, Saying, Awaiting, Doing, reach, has_job, is_held, read_label, write_label, first_cause, tokens_out, register_label, open_label, due}
+use Rattle.serving_place.specs.Serving.{Serving, TokenState, NotOut, Uncollected, Collected, number, seat, token_of, tokens_out}
+use Rattle.serving_place.specs.Operations.{procedure_place}
+use Rattle.serving_place.specs.Setting.{Setting, first_cause}
+use Rattle.serving_place.specs.Due.{Due, Nothing, Saying, Awaiting, Doing, due}
+use Rattle.handler_ops.specs.Course.{Course, Desks, Reach, Outside, AtHand, Working, Elsewhere, reach, has_job, is_held, read_label, write_label, register_label, open_label}
 use Rattle.handler_ops.specs.NextRow.{desk_row, start_row, starting_row, checking_row, waiting_row, operation_row, due_row, row_of}
-use Rattle.handler_ops.specs.Sayings.{LabelFits, HasRoom, RowFits, Fits, operation_due}
+use Rattle.serving_place.specs.Sayings.{LabelFits, HasRoom, Fits, operation_due}
+use Rattle.handler_ops.specs.Answering.{RowFits}
 
 read_fits : (o : OpDef) (s : Serving) (r : Reach) (c reg width : ℕ) (S : Status) → RowFits (desk_row r c (read_label c reg width 0) S (row.Reading c reg width)) (Some o) s
 read_fits o s Outside c reg width S = tt

@@ -9,9 +9,11 @@ use Rattle.sync_words.specs.declared.label.Label.{Label}
 use Rattle.sync_words.specs.declared.label.Label.TheVariants as say
 use Rattle.handler_ops.specs.declared.row.Row.{Row}
 use Rattle.handler_ops.specs.declared.row.Row.TheVariants as row
-use Rattle.handler_ops.specs.Serving.{Serving, TokenState, NotOut, Uncollected, Collected, number, seat, token_of}
-use Rattle.handler_ops.specs.Operations.{procedure_place}
-use Rattle.handler_ops.specs.Course.{Setting, Course, Step, by_desk, Desks, Reach, Outside, AtHand, Working, Elsewhere, Due, Nothing, Saying, Awaiting, Doing, reach, has_job, is_held, read_of, write_of, read_label, write_label, blank, first_cause, by_start_rule, reading, writing, checking, waiting, awaiting_job, claiming_job, operation_step, due, due_step, step_of, need_of}
+use Rattle.serving_place.specs.Serving.{Serving, TokenState, NotOut, Uncollected, Collected, number, seat, token_of}
+use Rattle.serving_place.specs.Operations.{procedure_place}
+use Rattle.serving_place.specs.Setting.{Setting, first_cause}
+use Rattle.serving_place.specs.Due.{Due, Nothing, Saying, Awaiting, Doing, due}
+use Rattle.handler_ops.specs.Course.{Course, Step, by_desk, Desks, Reach, Outside, AtHand, Working, Elsewhere, reach, has_job, is_held, read_of, write_of, read_label, write_label, blank, by_start_rule, reading, writing, checking, waiting, awaiting_job, claiming_job, operation_step, due_step, step_of, need_of}
 use Rattle.handler_ops.specs.NextRow.{desk_row, reading_row, writing_row, start_row, checking_row, waiting_row, operation_row, due_row, row_of}
 use Rattle.handler_ops.specs.Told.{step_as, need_as, read_at_hand, write_at_hand}
 use Rattle.handler_ops.proofs.Dues.{need_is}

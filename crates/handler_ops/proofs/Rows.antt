@@ -19,14 +19,16 @@ use Rattle.smi_manage.specs.declared.running.Running.{Running}
 use Rattle.smram_pool.specs.declared.error.PoolError.{PoolError}
 use Rattle.smram_pool.specs.State.{allocated}
 use Rattle.handler_ops.specs.declared.need.Need.TheVariants as need
-use Rattle.handler_ops.specs.Serving.{Serving, Seat, Free, Open, Done, TokenState, NotOut, Uncollected, Collected, number, seat, ran, token_of, state_of, HasOpen, IsFree, IsDone, HasEnded}
-use Rattle.handler_ops.specs.Operations.{procedure_place, ReadShows, WriteShows}
-use Rattle.handler_ops.specs.Forms.{Own, Program, by_left, by_turn, turn_of}
-use Rattle.handler_ops.specs.Places.{Call, OpenWalk, Begun, First, Started, Awaited, Place, levels_left, MayDo, MayTurn, MayInCall, MayInWalk, MayInWalks, MayBegun, HasMore, Accepts, IsOver}
-use Rattle.handler_ops.specs.Stands.{Leads}
-use Rattle.handler_ops.specs.Course.{Setting, Course, Desks, Move, Quiet, Speaks, Takes, Step, Reach, Outside, AtHand, Working, Elsewhere, Due, Nothing, Saying, Awaiting, Doing, JobDone, is_held, desk_of, image_in, claiming_job, awaiting_job, has_job, reach, by_desk, read_of, shown_value, write_of, read_label, write_label, blank, reading, writing, first_cause, by_start_rule, starting, checking, waiting, alloc_label, register_label, open_label, operation_step, due_left, due_turn, due_turns, due_in_call, due_in_walk, due_in_walks, due_begun, due, due_step, step_of, done_on, with_run, said, after_all, moved}
+use Rattle.serving_place.specs.Serving.{Serving, Seat, Free, Open, Done, TokenState, NotOut, Uncollected, Collected, number, seat, ran, token_of, state_of, HasOpen, IsFree, IsDone, HasEnded}
+use Rattle.serving_place.specs.Operations.{procedure_place, ReadShows, WriteShows, alloc_label}
+use Rattle.serving_place.specs.Forms.{Own, Program, by_left, by_turn, turn_of}
+use Rattle.serving_place.specs.Places.{Call, OpenWalk, Begun, First, Started, Awaited, Place, levels_left, MayDo, MayTurn, MayInCall, MayInWalk, MayInWalks, MayBegun, HasMore, Accepts, IsOver}
+use Rattle.serving_place.specs.Stands.{Leads}
+use Rattle.serving_place.specs.Setting.{Setting, first_cause}
+use Rattle.serving_place.specs.Due.{Due, Nothing, Saying, Awaiting, Doing, due_left, due_turn, due_turns, due_in_call, due_in_walk, due_in_walks, due_begun, due}
+use Rattle.handler_ops.specs.Course.{Course, Desks, Move, Quiet, Speaks, Takes, Step, Reach, Outside, AtHand, Working, Elsewhere, JobDone, is_held, desk_of, image_in, claiming_job, awaiting_job, has_job, reach, by_desk, read_of, shown_value, write_of, read_label, write_label, blank, reading, writing, by_start_rule, starting, checking, waiting, register_label, open_label, operation_step, due_step, step_of, done_on, with_run, said, after_all, moved}
 use Rattle.handler_ops.specs.Conditions.{IsSound, HasCome, CameFor}
-use Rattle.handler_ops.proofs.Completion.{seat_ran, owner_ran}
+use Rattle.serving_place.proofs.Completion.{seat_ran, owner_ran}
 
 -- what is due permits this label
 abbrev Permits : Program → Due → Serving → Label → Type 0

@@ -19,17 +19,19 @@ use Rattle.smi_manage.specs.declared.running.Running.{Running}
 use Rattle.smram_pool.specs.declared.error.PoolError.{PoolError}
 use Rattle.smram_pool.specs.State.{PoolState, allocated, freed}
 use Rattle.handler_ops.specs.declared.need.Need.TheVariants as need
-use Rattle.handler_ops.specs.Serving.{Serving, Seat, Free, Open, TokenState, NotOut, Uncollected, Collected, number, seat, ran, run_at, token_of, IsFree, IsDone}
-use Rattle.handler_ops.specs.Operations.{procedure_place, free_status, unregister_status}
-use Rattle.handler_ops.specs.Forms.{Event, Program, IsWhole, IsPrefix, turn_of}
-use Rattle.handler_ops.specs.Beginning.{at_begin}
-use Rattle.handler_ops.specs.Places.{Call, OpenWalk, Begun, First, Started, Awaited, Place, levels_left, next, at_first}
-use Rattle.handler_ops.specs.Stands.{StandsFor, Leads}
-use Rattle.handler_ops.specs.Course.{Setting, Course, Desks, Move, Quiet, Speaks, Takes, Step, Reach, Outside, AtHand, Working, Elsewhere, Due, Nothing, Saying, Awaiting, Doing, JobDone, is_held, desk_of, image_in, read_of, shown_value, write_of, read_label, write_label, blank, claiming_desk, claiming_job, awaiting_job, has_job, reach, by_desk, first_cause, by_start_rule, checking, waiting, alloc_label, register_label, open_label, operation_step, due_left, due_turn, due_turns, due_in_call, due_in_walk, due_begun, due, due_step, need_of, done_on, with_run, said, after_all, moved}
+use Rattle.serving_place.specs.Serving.{Serving, Seat, Free, Open, TokenState, NotOut, Uncollected, Collected, number, seat, ran, run_at, token_of, IsFree, IsDone}
+use Rattle.serving_place.specs.Operations.{procedure_place, free_status, unregister_status, alloc_label}
+use Rattle.serving_place.specs.Forms.{Event, Program, IsWhole, IsPrefix, turn_of}
+use Rattle.serving_place.specs.Beginning.{at_begin}
+use Rattle.serving_place.specs.Places.{Call, OpenWalk, Begun, First, Started, Awaited, Place, levels_left, next, at_first}
+use Rattle.serving_place.specs.Stands.{StandsFor, Leads}
+use Rattle.serving_place.specs.Setting.{Setting, first_cause}
+use Rattle.serving_place.specs.Due.{Due, Nothing, Saying, Awaiting, Doing, due_left, due_turn, due_turns, due_in_call, due_in_walk, due_begun, due}
+use Rattle.handler_ops.specs.Course.{Course, Desks, Move, Quiet, Speaks, Takes, Step, Reach, Outside, AtHand, Working, Elsewhere, JobDone, is_held, desk_of, image_in, read_of, shown_value, write_of, read_label, write_label, blank, claiming_desk, claiming_job, awaiting_job, has_job, reach, by_desk, by_start_rule, checking, waiting, register_label, open_label, operation_step, due_step, need_of, done_on, with_run, said, after_all, moved}
 use Rattle.handler_ops.specs.Conditions.{IsSound, held_after, Turn, IsAllowed, AllAllowed, move_of, course_after, said_by, course_of, beginning}
-use Rattle.handler_ops.proofs.Completion.{now_free, completes}
-use Rattle.handler_ops.proofs.Judging.{follows, begins, ends_whole, regroup}
-use Rattle.handler_ops.proofs.Seats.{SeatsBy, step_seats}
+use Rattle.serving_place.proofs.Completion.{now_free, completes}
+use Rattle.serving_place.proofs.Judging.{follows, begins, ends_whole, regroup}
+use Rattle.serving_place.proofs.Seats.{SeatsBy, step_seats}
 use Rattle.handler_ops.proofs.Rows.{ReachTells, reach_tells, no_job_free, step_leads, finished}
 
 -- labels that give no job and take none away

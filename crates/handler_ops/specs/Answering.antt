@@ -1,12 +1,14 @@
 -- What the answer of a need makes of a session and of the desks.
 use Rattle.std.specs.Prelude.{ℕ, ◌≡◌, ◌==◌, Bool, true, if◌then◌else◌, slice_set, Option, None, Some, option_map}
+use Rattle.cpu_table.specs.declared.handlers.OpDef.{OpDef}
 use Rattle.handler_ops.specs.declared.desk.Desk.{Desk}
 use Rattle.handler_ops.specs.declared.desk.Job.{Job}
 use Rattle.handler_ops.specs.declared.row.Row.{Row}
 use Rattle.handler_ops.specs.declared.row.Row.TheVariants as row
 use Rattle.handler_ops.specs.Course.{Desks, JobDone, Move, desk_of, is_held, moved, write_of}
-use Rattle.handler_ops.specs.Places.{Place}
-use Rattle.handler_ops.specs.Serving.{ran}
+use Rattle.serving_place.specs.Places.{Place}
+use Rattle.serving_place.specs.Serving.{Serving, ran}
+use Rattle.serving_place.specs.Sayings.{Known, Allocation, Release, Fits}
 use Rattle.handler_ops.specs.NextRow.{row_of}
 use Rattle.handler_ops.specs.Sessions.{Session, setting_of}
 use Rattle.handler_ops.specs.Told.{step_as}
@@ -70,3 +72,13 @@ abbrev pub is_at_hand : Row → Desks → Bool
 is_at_hand (row.Reading c reg width) held = is_held held c
 is_at_hand (row.Writing c reg width x) held = is_held held c
 is_at_hand _ held = true
+
+-- what the row says fits what is due
+abbrev pub RowFits : Row → Option OpDef → Serving → Type 0
+RowFits (row.Looking l) o s = Fits (Known l) o s
+RowFits (row.ClaimingDesk c l) o s = Fits (Known l) o s
+RowFits (row.ClaimingJob c l) o s = Fits (Known l) o s
+RowFits (row.Raising c l) o s = Fits (Known l) o s
+RowFits (row.Allocating n) o s = Fits (Allocation n) o s
+RowFits (row.Freeing n) o s = Fits (Release n) o s
+RowFits _ o s = Unit {0}

@@ -3,10 +3,11 @@ use Rattle.std.specs.Prelude.{◌≡◌, ℕ, Bool, true, false, not, ◌&&◌, 
 use Rattle.smm_base.specs.declared.kinds.HandlerType.{HandlerType}
 use Rattle.handler_ops.specs.declared.need.Need.{Need}
 use Rattle.handler_ops.specs.declared.need.Need.TheVariants as need
-use Rattle.handler_ops.specs.Serving.{Serving, seat, HasOpen, IsFree, IsDone}
-use Rattle.handler_ops.specs.Forms.{Event}
-use Rattle.handler_ops.specs.Places.{at_first}
-use Rattle.handler_ops.specs.Course.{Setting, Course, Desks, Move, Quiet, Speaks, Takes, JobDone, is_held, desk_of, done_on, step_of, said, moved}
+use Rattle.serving_place.specs.Serving.{Serving, seat, HasOpen, IsFree, IsDone}
+use Rattle.serving_place.specs.Forms.{Event}
+use Rattle.serving_place.specs.Places.{at_first}
+use Rattle.serving_place.specs.Setting.{Setting}
+use Rattle.handler_ops.specs.Course.{Course, Desks, Move, Quiet, Speaks, Takes, JobDone, is_held, desk_of, done_on, step_of, said, moved}
 
 -- `there` says which desks are held. Each processor has a seat; the boot processor holds its own desk; a processor whose desk is held has no job; and no
 -- job is done and not collected, since the two are set at once.

@@ -1,8 +1,7 @@
 -- The course of serving: at each place the next access, and by the number that it finds what is said and what is done.
 --
 -- It doesn't go by the form of a whole list. A `Step` is one row: the need, and beside it what is made of the number found.
-use Rattle.std.specs.Prelude.{ℕ, zero, suc, ◌+◌, Bool, true, false, not, ◌&&◌, ◌||◌, ◌==◌, nat_lt, nat_le, if◌then◌else◌, List, [], ◌∷◌, ◌++◌, length, map, take, replicate, slice_index_or, Option, Some, None, is_some, is_none, unwrap_or, Result, Ok, Err}
-use Rattle.std.specs.List.{filter}
+use Rattle.std.specs.Prelude.{ℕ, zero, suc, ◌+◌, Bool, true, false, not, ◌||◌, ◌==◌, nat_lt, if◌then◌else◌, List, [], ◌∷◌, ◌++◌, map, take, replicate, slice_index_or, Option, Some, None, is_some, unwrap_or}
 use Rattle.byteorder.specs.Endian.{little_number, little_bytes}
 use Rattle.smm_base.specs.declared.kinds.MapKind.TheVariants.{Ia32}
 use Rattle.smm_base.specs.declared.kinds.HandlerType.{HandlerType}
@@ -17,11 +16,7 @@ use Rattle.sync_words.specs.declared.label.StartRefusal.{StartRefusal}
 use Rattle.sync_words.specs.declared.label.StartRefusal.TheVariants as cause
 use Rattle.sync_words.specs.declared.label.Label.{Label}
 use Rattle.sync_words.specs.declared.label.Label.TheVariants as say
-use Rattle.handler_registry.specs.declared.registration.Registration.{Registration}
-use Rattle.handler_registry.specs.Registrations.{Registrations, is_live, is_full}
-use Rattle.smi_manage.specs.declared.running.Running.{Running}
-use Rattle.smi_manage.specs.Answers.{ended_with}
-use Rattle.smram_pool.specs.declared.error.PoolError.{PoolError}
+use Rattle.handler_registry.specs.Registrations.{is_live, is_full}
 use Rattle.smram_pool.specs.State.{allocated, freed}
 use Rattle.handler_ops.specs.declared.desk.Desk.{Desk}
 use Rattle.handler_ops.specs.declared.desk.Job.{Job}
@@ -29,18 +24,12 @@ use Rattle.handler_ops.specs.declared.need.Need.{Need}
 pub use Rattle.handler_ops.specs.declared.reach.Reach.{Reach}
 pub use Rattle.handler_ops.specs.declared.reach.Reach.TheVariants.{Outside, AtHand, Working, Elsewhere}
 use Rattle.handler_ops.specs.declared.need.Need.TheVariants as need
-use Rattle.handler_ops.specs.Serving.{Serving, Seat, Free, Open, Done, TokenState, NotOut, Uncollected, Collected, number, seat, token_of}
-use Rattle.handler_ops.specs.Operations.{register_of, pool_status, free_status, unregister_status, procedure_place}
-use Rattle.handler_ops.specs.Forms.{Event, Own, Ran, Program, status_of, turn_of}
-use Rattle.handler_ops.specs.Places.{Call, OpenWalk, Begun, First, Started, Awaited, Place, levels_left, next}
-
--- What stays while serving goes on: the handlers and procedures of the file, the processors' ids, how many processors
--- there are, and which of them is the boot processor.
-pub record Setting : Type 0 where
-  pub program : Program
-  pub ids : List ℕ
-  pub processors : ℕ
-  pub me : ℕ
+use Rattle.serving_place.specs.Serving.{Serving, Seat, Free, Open, Done, TokenState, NotOut, Uncollected, Collected, number, seat, token_of}
+use Rattle.serving_place.specs.Operations.{register_of, free_status, unregister_status, procedure_place, alloc_label}
+use Rattle.serving_place.specs.Forms.{Event, Own, Ran, Program}
+use Rattle.serving_place.specs.Places.{Place, next}
+use Rattle.serving_place.specs.Setting.{Setting, first_cause}
+use Rattle.serving_place.specs.Due.{Due, Nothing, Saying, Awaiting, Doing, due}
 
 -- the place, and whether the word of the processor that is given a job was put already
 pub record Course : Type 0 where
@@ -144,23 +133,6 @@ writing t held s c reg width x =
     by_desk (reach t held s c) c (write_label c reg width x) (write_of false blank reg width x).status
     (λ now. write_label c reg width x (write_of true (image_in (desk_of now c)) reg width x).status)
 
--- how many tokens are out
-abbrev pub has_token : Seat → Bool
-has_token Free = false
-has_token (Open j t) = t
-has_token (Done j t x S) = t
-
-abbrev pub tokens_out : Serving → ℕ
-tokens_out s = length s.tokens + length (filter has_token s.seats)
-
--- The start rule. The first of four causes refuses.
-abbrev pub first_cause : Setting → Serving → Bool → ℕ → Option ℕ → Option StartRefusal
-first_cause t s with_token c place =
-    if not (nat_lt c t.processors) then Some cause.OutOfRange
-    else (if c == t.me then Some cause.BootProcessor
-    else (if is_none place then Some cause.UnknownProcedure
-    else (if with_token && nat_le 64 (tokens_out s) then Some cause.Tokens else None)))
-
 -- by the cause, whether the processor has a job, whether its desk is held, and whether its word was put
 abbrev pub by_start_rule : Option StartRefusal → Bool → Bool → Bool → ℕ → Step → Label → Step
 by_start_rule (Some x) job held marked c collect start = looking (say.Refuse c x)
@@ -184,10 +156,6 @@ abbrev pub waiting : TokenState → ℕ → Step
 waiting NotOut n = looking (say.Wait n 0 InvalidParameter)
 waiting (Uncollected c) n = awaiting_job c
 waiting (Collected t) n = looking (say.Wait n t.result t.status)
-
-abbrev pub alloc_label : ℕ → Result ℕ PoolError → Label
-alloc_label size (Ok place) = say.Alloc size place Success
-alloc_label size (Err e) = say.Alloc size 0 (pool_status e)
 
 abbrev pub register_label : Bool → ℕ → ℕ → Label
 register_label true h last = say.Register h 0 OutOfResources
@@ -213,49 +181,6 @@ operation_step t held s marked n (op.Free v) = looking (say.Free (number s v) (f
 operation_step t held s marked n (op.Register h kind into) = looking (register_label (is_full s.registrations) h s.registrations.last)
 operation_step t held s marked n (op.Unregister v) = looking (say.Unregister (number s v) (unregister_status (is_live (number s v) s.registrations)))
 operation_step t held s marked n (op.Manage kind) = looking (open_label n kind)
-
--- What a place waits for: nothing, a label, the collect of the job of a processor, or an operation with so many levels left.
-pub data Due : Type 0 where
-  Nothing : Due
-  Saying : Label → Due
-  Awaiting : ℕ → Due
-  Doing : ℕ → OpDef → Due
-
--- where no unit is left it waits for `spent`
-abbrev pub due_left : ℕ → Due → Due
-due_left zero d = Saying say.Spent
-due_left (suc n) d = d
-
-abbrev pub due_turn : Option Registration → Due → (ℕ → Due) → Due
-due_turn None none some = none
-due_turn (Some r) none some = some r.handler
-
-abbrev pub due_turns : HandlerType → List ℕ → Running → Registrations → ℕ → Due
-due_turns kind [] r registrations left = Saying (say.Answer (ended_with kind r))
-due_turns kind (n ∷ turns) r registrations left =
-    due_turn (turn_of kind registrations n) (due_turns kind turns r registrations left) (λ h. due_left left (Saying (say.Call h)))
-
-abbrev pub due_in_call : Program → ℕ → ℕ → List OpDef → ℕ → Due
-due_in_call program n h [] left = Saying (say.Return h (status_of program h))
-due_in_call program n h (o ∷ os) left = due_left left (Doing n o)
-
-abbrev pub due_in_walk : Program → ℕ → OpenWalk → Option Call → Registrations → ℕ → Due
-due_in_walk program n w None registrations left = due_turns w.kind w.turns w.running registrations left
-due_in_walk program n w (Some c) registrations left = due_in_call program n c.handler c.ops left
-
-abbrev pub due_in_walks : Program → List HandlerType → List OpenWalk → Registrations → ℕ → Due
-due_in_walks program [] [] registrations left = Nothing
-due_in_walks program (kind ∷ kinds) [] registrations left = due_left left (Saying (say.Manage kind))
-due_in_walks program kinds (w ∷ ws) registrations left = due_in_walk program (levels_left (w ∷ ws)) w w.called registrations left
-
-abbrev pub due_begun : Program → List HandlerType → List OpenWalk → Option Begun → Registrations → ℕ → Due
-due_begun program kinds walks None registrations left = due_in_walks program kinds walks registrations left
-due_begun program kinds walks (Some (First w)) registrations left = Saying (say.Begin w)
-due_begun program kinds walks (Some (Started o)) registrations left = Doing (levels_left walks) o
-due_begun program kinds walks (Some (Awaited c into)) registrations left = Awaiting c
-
-abbrev pub due : Program → Place → Due
-due program p = due_begun program p.kinds p.walks p.begun p.state.registrations p.state.left
 
 abbrev pub due_step : Setting → Desks → Serving → Bool → Due → Step
 due_step t held s marked Nothing = record { need = need.Finished; on = λ found now. Quiet false }

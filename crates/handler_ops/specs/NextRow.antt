@@ -12,9 +12,11 @@ use Rattle.sync_words.specs.declared.label.Label.TheVariants as say
 use Rattle.handler_registry.specs.Registrations.{is_live, is_full}
 use Rattle.handler_ops.specs.declared.row.Row.{Row}
 use Rattle.handler_ops.specs.declared.row.Row.TheVariants as row
-use Rattle.handler_ops.specs.Serving.{Serving, TokenState, NotOut, Uncollected, Collected, number, seat, token_of}
-use Rattle.handler_ops.specs.Operations.{unregister_status, procedure_place}
-use Rattle.handler_ops.specs.Course.{Setting, Course, Desks, Reach, Outside, AtHand, Working, Elsewhere, Due, Nothing, Saying, Awaiting, Doing, reach, has_job, is_held, read_of, write_of, read_label, write_label, blank, first_cause, register_label, open_label, due}
+use Rattle.serving_place.specs.Serving.{Serving, TokenState, NotOut, Uncollected, Collected, number, seat, token_of}
+use Rattle.serving_place.specs.Operations.{unregister_status, procedure_place}
+use Rattle.serving_place.specs.Setting.{Setting, first_cause}
+use Rattle.serving_place.specs.Due.{Due, Nothing, Saying, Awaiting, Doing, due}
+use Rattle.handler_ops.specs.Course.{Course, Desks, Reach, Outside, AtHand, Working, Elsewhere, reach, has_job, is_held, read_of, write_of, read_label, write_label, blank, register_label, open_label}
 
 -- the desk rule
 abbrev pub desk_row : Reach → ℕ → (Status → Label) → Status → Row → Row

@@ -8,9 +8,10 @@ use Rattle.handler_ops.specs.declared.need.Need.{Need}
 use Rattle.handler_ops.specs.declared.need.Need.TheVariants as need
 use Rattle.handler_ops.specs.declared.row.Row.{Row}
 use Rattle.handler_ops.specs.declared.row.Row.TheVariants as row
-use Rattle.handler_ops.specs.Serving.{Serving}
-use Rattle.handler_ops.specs.Operations.{free_status}
-use Rattle.handler_ops.specs.Course.{Setting, Desks, Move, Step, Quiet, Speaks, looking, claiming_desk, claiming_job, awaiting_job, desk_of, image_in, label_of, read_of, shown_value, read_label, write_of, write_label, alloc_label}
+use Rattle.serving_place.specs.Serving.{Serving}
+use Rattle.serving_place.specs.Operations.{free_status, alloc_label}
+use Rattle.serving_place.specs.Setting.{Setting}
+use Rattle.handler_ops.specs.Course.{Desks, Move, Step, Quiet, Speaks, looking, claiming_desk, claiming_job, awaiting_job, desk_of, image_in, label_of, read_of, shown_value, read_label, write_of, write_label}
 
 -- what a read of the desk at hand says
 abbrev pub read_at_hand : Setting → ℕ → ℕ → ℕ → Desks → Label

@@ -1,26 +1,23 @@
-ghost use Rattle.std.specs.Prelude.{◌≡◌, ◌<◌, ◌≤◌, IfOk, length, replicate};
+ghost use Rattle.std.specs.Prelude.{◌≡◌, ◌<◌, IfOk};
 ghost use Rattle.cpu_table.specs.Data.{data_of};
-ghost use Rattle.handler_ops.specs.declared.seat.Seat.TheVariants.{Free};
-ghost use Rattle.handler_ops.specs.Serving.{seat};
+ghost use Rattle.serving_place.specs.Serving.{seat};
 ghost use Rattle.handler_ops.specs.Answering.{is_at_hand, told_on, HasTold, IsAtHand, move_as, answered, kept_as};
 ghost use Rattle.handler_ops.specs.Course.{need_of, label_of};
-ghost use Rattle.handler_ops.specs.Sessions.{first_session, begun_session, setting_of, job_number, registered_if, registrations_of, pool_at_first};
+ghost use Rattle.handler_ops.specs.Sessions.{first_session, begun_session, setting_of, job_number};
 ghost use Rattle.handler_ops.specs.Told.{need_as, handed_as, given_job};
 
+use crate::answering::answer;
 use crate::desk::Job;
 use crate::held::{Desks, Held};
 use crate::need::Need;
-use crate::progress::{MOST_LEVELS, Pending, Progress};
 use crate::row::Row;
-use crate::seat::Seat;
-use crate::state::State;
-use crate::token::Tokens;
-use cpu_table::{HandlerDef, Setup};
-use handler_registry::Registry;
-use smbase_reloc::pool_range;
-use smm_base::{HandlerType, NoMemory};
-use smram_pool::Pool;
-use std::alloc::{AllocError, Global};
+use crate::telling::row_of;
+use cpu_table::Setup;
+use serving_place::{
+    MOST_LEVELS, Pending, Progress, Seat, State, Tokens, free_seats, pool_of_platform, registered,
+};
+use smm_base::NoMemory;
+use std::alloc::Global;
 use std::marker::Model;
 use sync_words::Label;
 
@@ -37,7 +34,8 @@ impl Model for Server {
 
     ghost Value = { Session };
 
-    ghost use Rattle.handler_ops.specs.Progresses.{session_in, IsGoing};
+    ghost use Rattle.handler_ops.specs.Sessions.{session_in};
+    ghost use Rattle.serving_place.specs.Progresses.{IsGoing};
 
     ghost view = { λ s. session_in s.progress s.told };
 
@@ -96,7 +94,7 @@ impl Server {
         ensures row { self.new ≡ told_on held.old.desks self.old }
         ensures handed { held.new.desks ≡ handed_as self.new.told held.old.desks }
     {
-        let row = self.progress.row(&held.desks);
+        let row = row_of(&self.progress, &held.desks);
         give_by(row, &mut held.desks);
         self.told = row;
         need_of(row)
@@ -117,7 +115,7 @@ impl Server {
     {
         let told = self.told;
         self.told = Row::Finished;
-        self.progress.answer(told, found, &mut held.desks)
+        answer(&mut self.progress, told, found, &mut held.desks)
     }
 
     /// The access that is wanted while a need is unanswered. `Finished` before the first `next` of a session, after an answer
@@ -205,40 +203,4 @@ fn give_job(c: u16, label: Label, held: &mut Desks)
             },
         );
     }
-}
-
-// The handlers of the file that stand on a list from the start, registered in the file's order.
-fn registered(alloc: Global, handlers: &[HandlerDef]) -> Result<Registry, NoMemory>
-    requires { length handlers.now ≤ 64 }
-    ensures { IfOk result (λ registry. registry ≡ registrations_of handlers.now) }
-{
-    let mut registry = Registry::new(alloc)?;
-    for (place, handler) in handlers.iter().enumerate() {
-        register_if(&mut registry, handler.kind, place as u16);
-    }
-    Ok(registry)
-}
-
-fn register_if(registry: &mut Registry, kind: Option<HandlerType>, handler: u16)
-    ensures { registry.new ≡ registered_if kind handler registry.old }
-{
-    if let Some(kind) = kind {
-        let _ = registry.register(kind, handler);
-    }
-}
-
-fn pool_of_platform(alloc: Global, setup: &Setup) -> Result<Pool, NoMemory>
-    ensures { IfOk result (λ pool. pool ≡ pool_at_first (data_of setup.now)) }
-{
-    let range = pool_range(&setup.smram, setup.processors);
-    Pool::new(alloc, range.start, range.pages)
-}
-
-// A free seat for each of so many processors.
-fn free_seats(alloc: Global, n: usize) -> Result<Vec<Seat>, AllocError>
-    ensures { IfOk result (λ seats. seats.items ≡ replicate n Free) }
-{
-    let mut seats = Vec::new(alloc);
-    seats.resize(n, Seat::Free)?;
-    Ok(seats)
 }

@@ -14,11 +14,11 @@ use Rattle.sync_words.specs.declared.label.Label.TheVariants as say
 use Rattle.handler_registry.specs.declared.registration.Registration.{Registration}
 use Rattle.handler_registry.specs.Registrations.{Registrations}
 use Rattle.smi_manage.specs.declared.running.Running.{Running}
-use Rattle.handler_ops.specs.Serving.{Serving}
-use Rattle.handler_ops.specs.Forms.{Own, operations_of, operations_in, turn_of}
-use Rattle.handler_ops.specs.Beginning.{program_of}
-use Rattle.handler_ops.specs.Places.{Call, OpenWalk, Begun, First, Started, Awaited, Place, one_less, levels_left, at_left, at_turn, at_collect, ended, with_walk, awaits_after, begun_by, after_operating, after_doing, after_turn, after_in_call, after_in_walk, after_in_walks, after_begun, next}
-use Rattle.handler_ops.specs.Course.{Due, Nothing, Saying, Awaiting, Doing, due_left, due_turn, due_turns, due_in_call, due_in_walk, due_in_walks, due_begun, due}
+use Rattle.serving_place.specs.Serving.{Serving}
+use Rattle.serving_place.specs.Forms.{Own, operations_of, operations_in, turn_of}
+use Rattle.serving_place.specs.Beginning.{program_of}
+use Rattle.serving_place.specs.Places.{Call, OpenWalk, Begun, First, Started, Awaited, Place, one_less, levels_left, at_left, at_turn, at_collect, ended, with_walk, awaits_after, begun_by, after_operating, after_doing, after_turn, after_in_call, after_in_walk, after_in_walks, after_begun, next}
+use Rattle.serving_place.specs.Due.{Due, Nothing, Saying, Awaiting, Doing, due_left, due_turn, due_turns, due_in_call, due_in_walk, due_in_walks, due_begun, due}
 use Rattle.rendezvous_laws.proofs.Holds.{IsOp, AreOps, CallFits, WalksFit, BegunFits, PlaceFits}
 
 -- THE OPERATIONS OF A HANDLER

@@ -11,10 +11,11 @@ use Rattle.handler_registry.specs.Registrations.{Registrations}
 use Rattle.smram_pool.specs.State.{PoolState}
 use Rattle.handler_ops.specs.declared.row.Row.{Row as Told}
 use Rattle.handler_ops.specs.declared.row.Row.TheVariants as told
-use Rattle.handler_ops.specs.Beginning.{at_begin, program_of, walks_of}
-use Rattle.handler_ops.specs.Places.{Call, OpenWalk, Begun, First, Started, Awaited, Place, at_first, IsOver}
-use Rattle.handler_ops.specs.Stands.{Leads}
-use Rattle.handler_ops.specs.Course.{Setting, Course, is_held}
+use Rattle.serving_place.specs.Beginning.{at_begin, program_of, walks_of}
+use Rattle.serving_place.specs.Places.{Call, OpenWalk, Begun, First, Started, Awaited, Place, at_first, IsOver}
+use Rattle.serving_place.specs.Stands.{Leads}
+use Rattle.serving_place.specs.Setting.{Setting}
+use Rattle.handler_ops.specs.Course.{Course, is_held}
 use Rattle.handler_ops.specs.NextRow.{row_of}
 use Rattle.handler_ops.specs.Conditions.{IsSound, beginning}
 use Rattle.rendezvous_core.specs.declared.stepped.Stepped.{Stepped}

@@ -21,12 +21,13 @@ use Rattle.smram_pool.specs.declared.error.PoolError.{PoolError}
 use Rattle.smram_pool.specs.State.{allocated}
 use Rattle.handler_ops.specs.declared.row.Row.{Row}
 use Rattle.handler_ops.specs.declared.row.Row.TheVariants as row
-use Rattle.handler_ops.specs.declared.seat.Seat.{Seat}
-use Rattle.handler_ops.specs.declared.seat.Seat.TheVariants.{Free, Open, Done}
-use Rattle.handler_ops.specs.declared.token.Token.{Token}
-use Rattle.handler_ops.specs.Serving.{Serving, number, owner, state_of, IsFree}
-use Rattle.handler_ops.specs.Operations.{register_of, procedure_place}
-use Rattle.handler_ops.specs.Course.{Due, Nothing, Saying, Awaiting, Doing, is_held, read_of, write_of, shown_value, alloc_label, register_label, open_label, label_of}
+use Rattle.serving_place.specs.declared.seat.Seat.{Seat}
+use Rattle.serving_place.specs.declared.seat.Seat.TheVariants.{Free, Open, Done}
+use Rattle.serving_place.specs.declared.token.Token.{Token}
+use Rattle.serving_place.specs.Serving.{Serving, number, owner, state_of, IsFree}
+use Rattle.serving_place.specs.Operations.{register_of, procedure_place, alloc_label}
+use Rattle.serving_place.specs.Due.{Due, Nothing, Saying, Awaiting, Doing}
+use Rattle.handler_ops.specs.Course.{is_held, read_of, write_of, shown_value, register_label, open_label, label_of}
 use Rattle.handler_ops.specs.Conditions.{IsSound}
 use Rattle.handler_ops.specs.NextRow.{reading_row, writing_row, starting_row, checking_row, waiting_row, operation_row, due_row}
 use Rattle.handler_ops.specs.Told.{step_as}

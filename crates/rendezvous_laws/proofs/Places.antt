@@ -2,16 +2,17 @@
 use Rattle.std.proofs.Common.{◌≡◌, ℕ, Bool, List, [], ◌∷◌, ◌++◌, length, sym, ap, subst, refl, ◌∙◌}
 use Rattle.std.specs.Prelude.{slice_index_or}
 use Rattle.cpu_table.specs.Data.{SetupData}
-use Rattle.handler_ops.specs.declared.seat.Seat.{Seat}
-use Rattle.handler_ops.specs.declared.seat.Seat.TheVariants.{Free}
-use Rattle.handler_ops.specs.Serving.{Serving, IsFree, IsDone}
-use Rattle.handler_ops.specs.Forms.{Program, Event, IsWhole, IsPrefix}
-use Rattle.handler_ops.specs.Beginning.{at_begin, program_of, walks_of}
-use Rattle.handler_ops.specs.Places.{Place, next, Accepts}
-use Rattle.handler_ops.specs.Stands.{StandsFor, Leads}
-use Rattle.handler_ops.specs.Course.{Setting, after_all}
+use Rattle.serving_place.specs.declared.seat.Seat.{Seat}
+use Rattle.serving_place.specs.declared.seat.Seat.TheVariants.{Free}
+use Rattle.serving_place.specs.Serving.{Serving, IsFree, IsDone}
+use Rattle.serving_place.specs.Forms.{Program, Event, IsWhole, IsPrefix}
+use Rattle.serving_place.specs.Beginning.{at_begin, program_of, walks_of}
+use Rattle.serving_place.specs.Places.{Place, next, Accepts}
+use Rattle.serving_place.specs.Stands.{StandsFor, Leads}
+use Rattle.serving_place.specs.Setting.{Setting}
+use Rattle.handler_ops.specs.Course.{after_all}
 use Rattle.handler_ops.specs.Conditions.{IsSound}
-use Rattle.handler_ops.proofs.Judging.{begins, follows, ends_whole}
+use Rattle.serving_place.proofs.Judging.{begins, follows, ends_whole}
 use Rattle.handler_ops.proofs.Sessions.{stands_along}
 use Rattle.rendezvous_laws.proofs.Stages.{Knowledge}
 use Rattle.rendezvous_laws.proofs.Holds.{alone, first_place, HasLed, HasServed}

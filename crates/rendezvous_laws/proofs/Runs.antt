@@ -12,7 +12,8 @@ use Rattle.cpu_table.specs.declared.setup.Setup.{Setup}
 use Rattle.cpu_table.specs.Ranges.{is_between, policy_fits, wave_fits, handlers_fit}
 use Rattle.cpu_table.specs.declared.setup.Mode.{Mode}
 use Rattle.handler_ops.specs.declared.row.Row.TheVariants as told
-use Rattle.handler_ops.specs.Sessions.{registrations_of, pool_at_first, first_session}
+use Rattle.serving_place.specs.Beginning.{registrations_of, pool_at_first}
+use Rattle.handler_ops.specs.Sessions.{first_session}
 use Rattle.rendezvous_core.specs.Worlds.{World, step, events_from, world_after, start, labels, replay_events, replay_world, last_image}
 use Rattle.rendezvous_machine.specs.Machines.{Machine, beginning, member}
 use Rattle.rendezvous_machine.specs.Runs.{IsRun, machine_after}

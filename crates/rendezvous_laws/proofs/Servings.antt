@@ -13,20 +13,21 @@ use Rattle.sync_words.specs.declared.label.Label.TheVariants as say
 use Rattle.sync_words.specs.declared.word.WordId.TheVariants.{Inside}
 use Rattle.handler_ops.specs.declared.row.Row.{Row}
 use Rattle.handler_ops.specs.declared.row.Row.TheVariants as row
-use Rattle.handler_ops.specs.declared.seat.Seat.{Seat}
-use Rattle.handler_ops.specs.declared.seat.Seat.TheVariants.{Free}
-use Rattle.handler_ops.specs.Serving.{Serving, seat, IsFree}
-use Rattle.handler_ops.specs.Forms.{Own, IsPrefix}
-use Rattle.handler_ops.specs.Beginning.{at_begin, program_of, walks_of}
-use Rattle.handler_ops.specs.Places.{Place, next, Accepts, IsOver}
-use Rattle.handler_ops.specs.Stands.{Leads}
-use Rattle.handler_ops.specs.Course.{Course, Step, has_job, is_held, due, step_of, said, moved}
+use Rattle.serving_place.specs.declared.seat.Seat.{Seat}
+use Rattle.serving_place.specs.declared.seat.Seat.TheVariants.{Free}
+use Rattle.serving_place.specs.Serving.{Serving, seat, IsFree}
+use Rattle.serving_place.specs.Forms.{Own, IsPrefix}
+use Rattle.serving_place.specs.Beginning.{at_begin, program_of, walks_of}
+use Rattle.serving_place.specs.Places.{Place, next, Accepts, IsOver}
+use Rattle.serving_place.specs.Stands.{Leads}
+use Rattle.serving_place.specs.Due.{due}
+use Rattle.handler_ops.specs.Course.{Course, Step, has_job, is_held, step_of, said, moved}
 use Rattle.handler_ops.specs.Conditions.{IsSound, CameFor, beginning}
 use Rattle.handler_ops.specs.NextRow.{row_of}
 use Rattle.handler_ops.specs.Told.{step_as}
 use Rattle.handler_ops.proofs.Rows.{step_leads, finished}
 use Rattle.handler_ops.proofs.RowSteps.{step_of_row}
-use Rattle.handler_ops.proofs.Seats.{SeatsBy, step_seats}
+use Rattle.serving_place.proofs.Seats.{SeatsBy, step_seats}
 use Rattle.handler_ops.proofs.Sessions.{begins_sound}
 use Rattle.cpu_program.specs.Actors.{Processor, OfProcessor, OfChipset}
 use Rattle.cpu_program.specs.Processors.{told_need}

@@ -17,7 +17,7 @@ use Rattle.arrival.specs.Entry.{to_elect}
 use Rattle.exit_handshake.specs.Exit.{exit_at}
 use Rattle.handler_ops.specs.declared.desk.Desk.{Desk}
 use Rattle.handler_ops.specs.declared.row.Row.{Row as Told}
-use Rattle.handler_ops.specs.Forms.{Event}
+use Rattle.serving_place.specs.Forms.{Event}
 use Rattle.handler_ops.specs.Course.{Course}
 use Rattle.handler_ops.specs.Sessions.{Session as Chair}
 use Rattle.cpu_program.specs.declared.cargo.Cargo.TheVariants as cargo

@@ -11,8 +11,8 @@ use Rattle.rendezvous_laws.proofs.Stages.{Stage, AwaitingSmi, SwitchingOff, Look
 use Rattle.rendezvous_machine.specs.Machines.{AllCollected}
 use Rattle.sync_words.specs.declared.label.Label.TheVariants as say
 use Rattle.handler_ops.specs.declared.row.Row.TheVariants as told
-use Rattle.handler_ops.specs.Beginning.{at_begin, program_of, walks_of}
-use Rattle.handler_ops.specs.Places.{Place}
+use Rattle.serving_place.specs.Beginning.{at_begin, program_of, walks_of}
+use Rattle.serving_place.specs.Places.{Place}
 use Rattle.handler_ops.specs.Course.{after_all}
 use Rattle.handler_ops.specs.Conditions.{beginning}
 use Rattle.rendezvous_laws.proofs.Holds.{alone, first_place, IsBeginning, Rests, HasServed, SignalFits, At, fine}

@@ -11,7 +11,7 @@ use Rattle.save_state_map.specs.Images.{ImageContents}
 use Rattle.save_state_access.specs.Reading.{first_case, register_at, width_at}
 use Rattle.save_state_access.specs.Writing.{WriteAnswer, write_answer, is_written, with_low_bytes, starts_halt}
 use Rattle.save_state_access.specs.Table.{parts_numbered}
-use Rattle.handler_ops.specs.Operations.{register_of}
+use Rattle.serving_place.specs.Operations.{register_of}
 use Rattle.handler_ops.specs.Course.{write_of, low_bytes}
 use Rattle.rendezvous_machine.specs.Services.{written}
 

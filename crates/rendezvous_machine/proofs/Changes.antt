@@ -4,7 +4,7 @@ use Rattle.std.specs.Option.{option_map}
 use Rattle.cpu_table.specs.Data.{SetupData}
 use Rattle.sync_words.specs.declared.label.Label.{Label}
 use Rattle.sync_words.specs.declared.label.Label.TheVariants as say
-use Rattle.handler_ops.specs.Forms.{Own, Ran}
+use Rattle.serving_place.specs.Forms.{Own, Ran}
 use Rattle.rendezvous_machine.specs.Machines.{Machine, Session}
 use Rattle.rendezvous_machine.specs.Listed.{place_of, is_over}
 use Rattle.rendezvous_machine.specs.Effects.{effect, opened, serves, gathers, made_ready, has_expired, made_closed, made_begun, made_done, says, hears}

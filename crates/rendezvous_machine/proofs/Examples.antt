@@ -14,9 +14,8 @@ use Rattle.cpu_table.specs.declared.setup.Mode.TheVariants.{Traditional}
 use Rattle.cpu_table.specs.declared.waves.Arrival.TheVariants.{Prompt}
 use Rattle.sync_words.specs.declared.label.StartRefusal.TheVariants.{Busy}
 use Rattle.sync_words.specs.declared.label.Label.TheVariants as say
-use Rattle.handler_ops.specs.Forms.{Event, Own, Ran, IsWhole}
-use Rattle.handler_ops.specs.Beginning.{program_of, walks_of, at_begin}
-use Rattle.handler_ops.specs.Sessions.{registrations_of, pool_at_first}
+use Rattle.serving_place.specs.Forms.{Event, Own, Ran, IsWhole}
+use Rattle.serving_place.specs.Beginning.{program_of, walks_of, at_begin, registrations_of, pool_at_first}
 use Rattle.rendezvous_machine.specs.Machines.{beginning}
 use Rattle.rendezvous_machine.specs.Runs.{Said, IsRun}
 

@@ -10,12 +10,12 @@ use Rattle.sync_words.specs.declared.label.Label.{Label}
 use Rattle.sync_words.specs.declared.label.Label.TheVariants as say
 use Rattle.handler_registry.specs.declared.registration.Registration.{Registration}
 use Rattle.smi_manage.specs.declared.running.Running.{Running}
-use Rattle.handler_ops.specs.declared.seat.Seat.{Seat}
-use Rattle.handler_ops.specs.declared.seat.Seat.TheVariants.{Free, Open, Done}
-use Rattle.handler_ops.specs.Serving.{Serving, seat, put_on, collected, put_result, dropped}
-use Rattle.handler_ops.specs.Operations.{Starts, Fits, after, Collects, register_on, drop_on}
-use Rattle.handler_ops.specs.Forms.{Own, Program, by_left, by_turn, by_collect, turn_of}
-use Rattle.handler_ops.specs.Places.{Call, OpenWalk, Begun, First, Started, Awaited, Place, one_less, levels_left, at_left, at_turn, at_collect, MayOperate, after_operating, with_walk, MayOpen, MayDo, after_doing, MayTurn, after_turn, MayInCall, after_in_call, MayInWalk, after_in_walk, MayInWalks, after_in_walks, MayBegun, after_begun, Accepts, next}
+use Rattle.serving_place.specs.declared.seat.Seat.{Seat}
+use Rattle.serving_place.specs.declared.seat.Seat.TheVariants.{Free, Open, Done}
+use Rattle.serving_place.specs.Serving.{Serving, seat, put_on, collected, put_result, dropped}
+use Rattle.serving_place.specs.Operations.{Starts, Fits, after, Collects, register_on, drop_on}
+use Rattle.serving_place.specs.Forms.{Own, Program, by_left, by_turn, by_collect, turn_of}
+use Rattle.serving_place.specs.Places.{Call, OpenWalk, Begun, First, Started, Awaited, Place, one_less, levels_left, at_left, at_turn, at_collect, MayOperate, after_operating, with_walk, MayOpen, MayDo, after_doing, MayTurn, after_turn, MayInCall, after_in_call, MayInWalk, after_in_walk, MayInWalks, after_in_walks, MayBegun, after_begun, Accepts, next}
 
 -- the last number given and the seats before a start, and after it
 pub record IsStart (g : ℕ) (qs : List Seat) (h : ℕ) (rs : List Seat) (c j : ℕ) : Type 0 where

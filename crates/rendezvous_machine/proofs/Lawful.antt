@@ -9,9 +9,9 @@ use Rattle.cpu_table.specs.declared.setup.Mode.TheVariants.{Traditional, Relaxed
 use Rattle.sync_words.specs.declared.label.Label.{Label}
 use Rattle.sync_words.specs.declared.label.Label.TheVariants as say
 use Rattle.sync_words.specs.declared.label.StartRefusal.{StartRefusal}
-use Rattle.handler_ops.specs.Serving.{Serving, ran}
-use Rattle.handler_ops.specs.Forms.{Event, Own, Ran, Ends, Says, IsPrefix}
-use Rattle.handler_ops.specs.Beginning.{walks_of, program_of}
+use Rattle.serving_place.specs.Serving.{Serving, ran}
+use Rattle.serving_place.specs.Forms.{Event, Own, Ran, Ends, Says, IsPrefix}
+use Rattle.serving_place.specs.Beginning.{walks_of, program_of}
 use Rattle.rendezvous_machine.specs.Machines.{Machine, Session, Member, nobody, member, first_member, beginning, is_here, is_counted_phase}
 use Rattle.rendezvous_machine.specs.Listed.{place_of, is_over, CanSay, first_serving}
 use Rattle.rendezvous_machine.specs.Refusals.{refusal}

@@ -7,13 +7,13 @@ use Rattle.cpu_table.specs.Data.{SetupData}
 use Rattle.sync_words.specs.declared.label.Label.{Label}
 use Rattle.sync_words.specs.declared.label.Label.TheVariants as say
 use Rattle.handler_ops.specs.declared.desk.Job.{Job}
-use Rattle.handler_ops.specs.declared.seat.Seat.{Seat}
-use Rattle.handler_ops.specs.declared.seat.Seat.TheVariants.{Free, Open}
-use Rattle.handler_ops.specs.Serving.{Serving, seat, run_at, HasOpen}
-use Rattle.handler_ops.specs.Forms.{Program, Event, Own, Ran, IsWhole, IsPrefix}
-use Rattle.handler_ops.specs.Beginning.{program_of, walks_of}
-use Rattle.handler_ops.specs.Places.{OpenWalk, Begun, Place, HasMore, Accepts, IsOver, next, at_first}
-use Rattle.handler_ops.specs.Stands.{StandsFor, Follows}
+use Rattle.serving_place.specs.declared.seat.Seat.{Seat}
+use Rattle.serving_place.specs.declared.seat.Seat.TheVariants.{Free, Open}
+use Rattle.serving_place.specs.Serving.{Serving, seat, run_at, HasOpen}
+use Rattle.serving_place.specs.Forms.{Program, Event, Own, Ran, IsWhole, IsPrefix}
+use Rattle.serving_place.specs.Beginning.{program_of, walks_of}
+use Rattle.serving_place.specs.Places.{OpenWalk, Begun, Place, HasMore, Accepts, IsOver, next, at_first}
+use Rattle.serving_place.specs.Stands.{StandsFor, Follows}
 use Rattle.handler_ops.specs.Course.{after_all}
 use Rattle.rendezvous_machine.specs.Machines.{Machine, Session, member}
 use Rattle.rendezvous_machine.specs.Listed.{first_serving, place_by, nothing_left, is_over, grown, grown_unless}

@@ -5,7 +5,7 @@ use Rattle.cpu_table.specs.Data.{SetupData}
 use Rattle.sync_words.specs.declared.label.Label.{Label}
 use Rattle.sync_words.specs.declared.label.Label.TheVariants as say
 use Rattle.rendezvous_machine.specs.Machines.{Machine, Session, Member, Phase, Out, In, Counted, Here, Gone, Off, nobody, member, is_here, is_counted_phase}
-use Rattle.handler_ops.specs.Forms.{Own, Ran}
+use Rattle.serving_place.specs.Forms.{Own, Ran}
 use Rattle.rendezvous_machine.specs.Listed.{place_of, is_over}
 use Rattle.rendezvous_machine.specs.Rules.{Rule}
 use Rattle.rendezvous_machine.specs.Services.{written}

@@ -4,7 +4,7 @@ use Rattle.std.specs.Option.{option_map}
 use Rattle.cpu_table.specs.Data.{SetupData}
 use Rattle.sync_words.specs.declared.label.Label.{Label}
 use Rattle.sync_words.specs.declared.label.Label.TheVariants as say
-use Rattle.handler_ops.specs.Forms.{Event, Own, Ran}
+use Rattle.serving_place.specs.Forms.{Event, Own, Ran}
 use Rattle.rendezvous_machine.specs.Machines.{Machine, Session, Member, Phase, Out, In, Counted, Here, Gone, Off, nobody, member, is_here}
 use Rattle.rendezvous_machine.specs.Listed.{place_of, is_over, grown_unless}
 use Rattle.rendezvous_machine.specs.Rules.{Rule}

@@ -7,9 +7,9 @@ use Rattle.cpu_table.specs.Data.{SetupData}
 use Rattle.sync_words.specs.declared.label.Label.{Label}
 use Rattle.sync_words.specs.declared.label.Label.TheVariants as say
 use Rattle.handler_ops.specs.declared.desk.Job.{Job}
-use Rattle.handler_ops.specs.declared.seat.Seat.TheVariants.{Free}
-use Rattle.handler_ops.specs.Serving.{Serving}
-use Rattle.handler_ops.specs.Forms.{Own, Ran}
+use Rattle.serving_place.specs.declared.seat.Seat.TheVariants.{Free}
+use Rattle.serving_place.specs.Serving.{Serving}
+use Rattle.serving_place.specs.Forms.{Own, Ran}
 use Rattle.rendezvous_machine.specs.Machines.{Machine, Session, Member, Gone, nobody, member}
 use Rattle.rendezvous_machine.specs.Listed.{first_serving, place_by, place_in, place_of, is_over, grown_unless, CanSay, IsServed}
 use Rattle.rendezvous_machine.specs.Services.{written}

@@ -9,7 +9,7 @@ use Rattle.cpu_table.specs.Data.{SetupData}
 use Rattle.sync_words.specs.declared.label.Label.{Label}
 use Rattle.sync_words.specs.declared.label.Label.TheVariants as say
 use Rattle.handler_ops.specs.declared.desk.Job.{Job}
-use Rattle.handler_ops.specs.Forms.{Event, Own, Ran}
+use Rattle.serving_place.specs.Forms.{Event, Own, Ran}
 use Rattle.handler_ops.specs.Procedures.{job_on}
 use Rattle.rendezvous_machine.specs.Platforms.{cause_of}
 use Rattle.rendezvous_machine.specs.Machines.{Machine, Session, Member, Phase, Out, In, Counted, Here, Gone, Off, member, is_counted}

@@ -4,10 +4,10 @@ use Rattle.std.specs.Option.{option_map}
 use Rattle.smm_base.specs.declared.kinds.HandlerType.{HandlerType}
 use Rattle.cpu_table.specs.Data.{SetupData}
 use Rattle.sync_words.specs.declared.label.Label.{Label}
-use Rattle.handler_ops.specs.Serving.{Serving}
-use Rattle.handler_ops.specs.Forms.{Program, Event, Own, IsWhole, IsPrefix}
-use Rattle.handler_ops.specs.Beginning.{program_of, walks_of, at_begin}
-use Rattle.handler_ops.specs.Places.{OpenWalk, Begun, Place, at_first, ended}
+use Rattle.serving_place.specs.Serving.{Serving}
+use Rattle.serving_place.specs.Forms.{Program, Event, Own, IsWhole, IsPrefix}
+use Rattle.serving_place.specs.Beginning.{program_of, walks_of, at_begin}
+use Rattle.serving_place.specs.Places.{OpenWalk, Begun, Place, at_first, ended}
 use Rattle.handler_ops.specs.Course.{after_all}
 use Rattle.rendezvous_machine.specs.Machines.{Machine, Session}
 

@@ -9,8 +9,8 @@ use Rattle.cpu_table.specs.Data.{SetupData}
 use Rattle.handler_registry.specs.Registrations.{Registrations}
 use Rattle.smram_pool.specs.State.{PoolState}
 use Rattle.handler_ops.specs.declared.desk.Job.{Job}
-use Rattle.handler_ops.specs.Forms.{Event}
-use Rattle.handler_ops.specs.Sessions.{registrations_of, pool_at_first}
+use Rattle.serving_place.specs.Forms.{Event}
+use Rattle.serving_place.specs.Beginning.{registrations_of, pool_at_first}
 pub use Rattle.rendezvous_machine.specs.declared.phase.Phase.{Phase}
 pub use Rattle.rendezvous_machine.specs.declared.phase.Phase.TheVariants.{Out, In, Counted, Here, Gone, Off}
 

@@ -6,10 +6,11 @@ use Rattle.cpu_table.specs.declared.handlers.OpDef.TheVariants as op
 use Rattle.sync_words.specs.declared.label.StartRefusal.{StartRefusal}
 use Rattle.sync_words.specs.declared.label.StartRefusal.TheVariants.{Busy, Absent}
 use Rattle.handler_ops.specs.declared.desk.Job.{Job}
-use Rattle.handler_ops.specs.Serving.{Serving}
-use Rattle.handler_ops.specs.Operations.{procedure_place}
-use Rattle.handler_ops.specs.Beginning.{program_of}
-use Rattle.handler_ops.specs.Course.{Due, Doing, due, first_cause}
+use Rattle.serving_place.specs.Serving.{Serving}
+use Rattle.serving_place.specs.Operations.{procedure_place}
+use Rattle.serving_place.specs.Beginning.{program_of}
+use Rattle.serving_place.specs.Due.{Due, Doing, due}
+use Rattle.serving_place.specs.Setting.{first_cause}
 use Rattle.rendezvous_machine.specs.Machines.{Machine, member, is_here}
 use Rattle.rendezvous_machine.specs.Listed.{place_of}
 use Rattle.rendezvous_machine.specs.Services.{setting}

@@ -9,8 +9,9 @@ use Rattle.save_state_access.specs.Reading.{ReadAnswer}
 use Rattle.save_state_access.specs.Writing.{WriteAnswer}
 use Rattle.cpu_table.specs.Data.{SetupData}
 use Rattle.handler_ops.specs.declared.desk.Job.{Job}
-use Rattle.handler_ops.specs.Beginning.{program_of}
-use Rattle.handler_ops.specs.Course.{Setting, read_of, write_of, shown_value}
+use Rattle.serving_place.specs.Beginning.{program_of}
+use Rattle.serving_place.specs.Setting.{Setting}
+use Rattle.handler_ops.specs.Course.{read_of, write_of, shown_value}
 use Rattle.rendezvous_machine.specs.Machines.{Machine, member, is_here}
 
 -- What the boot processor reaches: no processor; one whose job is open, or is finished and not collected; or the image

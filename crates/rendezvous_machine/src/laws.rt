@@ -16,7 +16,7 @@ ghost use Rattle.rendezvous_machine.specs.Refusals.{refusal};
 ghost use Rattle.rendezvous_machine.specs.Runs.{Said, IsRun, machine_after};
 ghost use Rattle.rendezvous_machine.specs.Histories.{has_end, is_leading, is_run, HasSaid, HasBegun, HasAll};
 
-use handler_ops::standing;
+use serving_place::standing;
 
 /// What holds of every run of the machine, on each platform and from all registers and images.
 pub fn run_laws()

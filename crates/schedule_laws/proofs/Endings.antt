@@ -8,7 +8,7 @@ use Rattle.smm_base.specs.declared.kinds.Policy.TheVariants.{Elected}
 use Rattle.cpu_table.specs.Data.{SetupData}
 use Rattle.handler_ops.specs.declared.desk.Desk.{Desk}
 use Rattle.handler_ops.specs.declared.desk.Job.{Job}
-use Rattle.handler_ops.specs.Places.{Place}
+use Rattle.serving_place.specs.Places.{Place}
 use Rattle.handler_ops.specs.Sessions.{Session as Chair}
 use Rattle.cpu_program.specs.declared.cargo.Cargo.{Cargo}
 use Rattle.cpu_program.specs.declared.cargo.Cargo.TheVariants as cargo

@@ -10,12 +10,12 @@ use Rattle.sync_words.specs.declared.label.Label.TheVariants as say
 use Rattle.handler_ops.specs.declared.desk.Desk.{Desk}
 use Rattle.handler_ops.specs.declared.desk.Job.{Job}
 use Rattle.handler_ops.specs.declared.row.Row.TheVariants as told
-use Rattle.handler_ops.specs.declared.seat.Seat.{Seat as JobSeat}
-use Rattle.handler_ops.specs.declared.seat.Seat.TheVariants.{Free}
-use Rattle.handler_ops.specs.Serving.{Serving}
-use Rattle.handler_ops.specs.Forms.{Own}
-use Rattle.handler_ops.specs.Beginning.{at_begin, walks_of}
-use Rattle.handler_ops.specs.Places.{place_at}
+use Rattle.serving_place.specs.declared.seat.Seat.{Seat as JobSeat}
+use Rattle.serving_place.specs.declared.seat.Seat.TheVariants.{Free}
+use Rattle.serving_place.specs.Serving.{Serving}
+use Rattle.serving_place.specs.Forms.{Own}
+use Rattle.serving_place.specs.Beginning.{at_begin, walks_of}
+use Rattle.serving_place.specs.Places.{place_at}
 use Rattle.handler_ops.specs.Course.{Course, is_held, has_job}
 use Rattle.handler_ops.specs.Conditions.{IsSound, beginning}
 use Rattle.handler_ops.specs.Sessions.{Session as Chair}

@@ -7,8 +7,8 @@ use Rattle.cpu_table.specs.Data.{SetupData}
 use Rattle.sync_words.specs.declared.label.Label.{Label}
 use Rattle.handler_ops.specs.declared.desk.Desk.{Desk}
 use Rattle.handler_ops.specs.declared.row.Row.TheVariants as told
-use Rattle.handler_ops.specs.Serving.{IsFree}
-use Rattle.handler_ops.specs.Serving as serving
+use Rattle.serving_place.specs.Serving.{IsFree}
+use Rattle.serving_place.specs.Serving as serving
 use Rattle.handler_ops.specs.Course.{Course, Desks, is_held}
 use Rattle.handler_ops.specs.Conditions.{IsSound}
 use Rattle.handler_ops.specs.Sessions.{Session as Chair}

@@ -14,10 +14,10 @@ use Rattle.sync_words.specs.declared.label.Label.TheVariants as say
 use Rattle.handler_registry.specs.declared.registration.Registration.{Registration}
 use Rattle.handler_registry.specs.Registrations.{Registrations}
 use Rattle.smi_manage.specs.declared.running.Running.{Running}
-use Rattle.handler_ops.specs.Forms.{operations_of, operations_in, turn_of}
-use Rattle.handler_ops.specs.Beginning.{program_of}
-use Rattle.handler_ops.specs.Places.{Call, OpenWalk, Begun, First, Started, Awaited, Place, levels_left}
-use Rattle.handler_ops.specs.Course.{Due, Nothing, Saying, Awaiting, Doing, due_left, due_turn, due_turns, due_in_call, due_in_walk, due_in_walks, due_begun, due}
+use Rattle.serving_place.specs.Forms.{operations_of, operations_in, turn_of}
+use Rattle.serving_place.specs.Beginning.{program_of}
+use Rattle.serving_place.specs.Places.{Call, OpenWalk, Begun, First, Started, Awaited, Place, levels_left}
+use Rattle.serving_place.specs.Due.{Due, Nothing, Saying, Awaiting, Doing, due_left, due_turn, due_turns, due_in_call, due_in_walk, due_in_walks, due_begun, due}
 
 abbrev pub IsOp : SetupData → OpDef → Type 0
 IsOp d o = op_fits (length d.handlers) o ≡ true

@@ -4,9 +4,9 @@ use Rattle.std.specs.Prelude.{is_some}
 use Rattle.std.proofs.lemmas.Bool.{cases_eq, ne_eqb}
 use Rattle.cpu_table.specs.Data.{SetupData}
 use Rattle.handler_ops.specs.declared.desk.Desk.{Desk}
-use Rattle.handler_ops.specs.Serving as serving
-use Rattle.handler_ops.specs.Forms.{Event}
-use Rattle.handler_ops.specs.Places.{Place}
+use Rattle.serving_place.specs.Serving as serving
+use Rattle.serving_place.specs.Forms.{Event}
+use Rattle.serving_place.specs.Places.{Place}
 use Rattle.handler_ops.specs.Course.{Desks, is_held}
 use Rattle.handler_ops.specs.Conditions.{IsSound}
 use Rattle.handler_ops.specs.NextRow.{row_of}

@@ -15,7 +15,7 @@ use Rattle.handler_ops.specs.declared.desk.Desk.{Desk}
 use Rattle.handler_ops.specs.declared.need.Need.TheVariants as need
 use Rattle.handler_ops.specs.declared.row.Row.{Row}
 use Rattle.handler_ops.specs.declared.row.Row.TheVariants as told
-use Rattle.handler_ops.specs.Places.{OpenWalk, Begun, HasMore, IsOver}
+use Rattle.serving_place.specs.Places.{OpenWalk, Begun, HasMore, IsOver}
 use Rattle.handler_ops.specs.Course.{Desks, desk_of, has_job, is_held, need_of}
 use Rattle.handler_ops.specs.Conditions.{IsSound}
 use Rattle.handler_ops.specs.NextRow.{row_of}

@@ -9,13 +9,14 @@ use Rattle.smram_pool.specs.declared.error.PoolError.{PoolError}
 use Rattle.smram_pool.specs.State.{allocated}
 use Rattle.handler_ops.specs.declared.row.Row.{Row}
 use Rattle.handler_ops.specs.declared.row.Row.TheVariants as told
-use Rattle.handler_ops.specs.declared.seat.Seat.{Seat as JobSeat}
-use Rattle.handler_ops.specs.Serving.{HasOpen}
-use Rattle.handler_ops.specs.Forms.{Own}
-use Rattle.handler_ops.specs.Beginning.{program_of}
-use Rattle.handler_ops.specs.Places.{Place, Accepts, next}
-use Rattle.handler_ops.specs.Stands.{Leads}
-use Rattle.handler_ops.specs.Course.{Course, Desks, Move, Speaks, Step, is_held, has_job, alloc_label, step_of, said, moved}
+use Rattle.serving_place.specs.declared.seat.Seat.{Seat as JobSeat}
+use Rattle.serving_place.specs.Serving.{HasOpen}
+use Rattle.serving_place.specs.Forms.{Own}
+use Rattle.serving_place.specs.Beginning.{program_of}
+use Rattle.serving_place.specs.Places.{Place, Accepts, next}
+use Rattle.serving_place.specs.Stands.{Leads}
+use Rattle.serving_place.specs.Operations.{alloc_label}
+use Rattle.handler_ops.specs.Course.{Course, Desks, Move, Speaks, Step, is_held, has_job, step_of, said, moved}
 use Rattle.handler_ops.specs.Conditions.{CameFor}
 use Rattle.handler_ops.specs.NextRow.{row_of}
 use Rattle.handler_ops.specs.Sessions.{Session as Chair}

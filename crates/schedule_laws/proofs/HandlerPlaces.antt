@@ -11,15 +11,15 @@ use Rattle.sync_words.specs.declared.label.Label.TheVariants as say
 use Rattle.handler_registry.specs.Registrations.{Registrations}
 use Rattle.smram_pool.specs.State.{PoolState}
 use Rattle.handler_ops.specs.declared.desk.Job.{Job}
-use Rattle.handler_ops.specs.declared.seat.Seat.{Seat}
-use Rattle.handler_ops.specs.declared.seat.Seat.TheVariants.{Free, Open, Done}
-use Rattle.handler_ops.specs.Serving.{HasOpen, owes_token, owner}
-use Rattle.handler_ops.specs.Forms.{Event, Own, IsPrefix}
-use Rattle.handler_ops.specs.Beginning.{at_begin, program_of, walks_of}
-use Rattle.handler_ops.specs.Places.{Place, Accepts, next}
-use Rattle.handler_ops.specs.Stands.{Leads}
+use Rattle.serving_place.specs.declared.seat.Seat.{Seat}
+use Rattle.serving_place.specs.declared.seat.Seat.TheVariants.{Free, Open, Done}
+use Rattle.serving_place.specs.Serving.{HasOpen, owes_token, owner}
+use Rattle.serving_place.specs.Forms.{Event, Own, IsPrefix}
+use Rattle.serving_place.specs.Beginning.{at_begin, program_of, walks_of}
+use Rattle.serving_place.specs.Places.{Place, Accepts, next}
+use Rattle.serving_place.specs.Stands.{Leads}
 use Rattle.handler_ops.specs.Course.{has_job}
-use Rattle.handler_ops.proofs.Judging.{begins, follows}
+use Rattle.serving_place.proofs.Judging.{begins, follows}
 use Rattle.handler_ops.proofs.Sessions.{stands_along}
 use Rattle.rendezvous_machine.specs.Machines.{Machine, member}
 use Rattle.rendezvous_machine.specs.Listed.{grown, place_by}

@@ -9,7 +9,7 @@ use Rattle.handler_ops.specs.declared.desk.Job.{Job}
 use Rattle.save_state_access.specs.Reading.{ReadAnswer}
 use Rattle.handler_ops.specs.declared.row.Row.{Row}
 use Rattle.handler_ops.specs.declared.row.Row.TheVariants as told
-use Rattle.handler_ops.specs.Operations.{register_of}
+use Rattle.serving_place.specs.Operations.{register_of}
 use Rattle.handler_ops.specs.Course.{desk_of, image_in, is_held, read_of, shown_value}
 use Rattle.handler_ops.specs.Told.{read_at_hand}
 use Rattle.handler_ops.proofs.Dues.{held_is}

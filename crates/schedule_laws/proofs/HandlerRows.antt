@@ -16,17 +16,19 @@ use Rattle.sync_words.specs.declared.label.Label.{Label}
 use Rattle.sync_words.specs.declared.label.Label.TheVariants as say
 use Rattle.handler_registry.specs.Registrations.{is_full}
 use Rattle.handler_ops.specs.declared.desk.Job.{Job}
-use Rattle.handler_ops.specs.declared.seat.Seat.{Seat}
-use Rattle.handler_ops.specs.declared.seat.Seat.TheVariants.{Free, Open, Done}
-use Rattle.handler_ops.specs.declared.token.Token.{Token}
+use Rattle.serving_place.specs.declared.seat.Seat.{Seat}
+use Rattle.serving_place.specs.declared.seat.Seat.TheVariants.{Free, Open, Done}
+use Rattle.serving_place.specs.declared.token.Token.{Token}
 use Rattle.handler_ops.specs.declared.reach.Reach.TheVariants.{Outside, AtHand, Working, Elsewhere}
 use Rattle.handler_ops.specs.declared.row.Row.{Row}
 use Rattle.handler_ops.specs.declared.row.Row.TheVariants as told
-use Rattle.handler_ops.specs.Serving.{Serving, IsFree, number, owner, owes_token, state_of}
-use Rattle.handler_ops.specs.Operations.{register_of, procedure_place}
-use Rattle.handler_ops.specs.Beginning.{program_of}
-use Rattle.handler_ops.specs.Places.{Place}
-use Rattle.handler_ops.specs.Course.{Due, Nothing, Saying, Awaiting, Doing, is_held, has_job, has_token, tokens_out, first_cause, read_of, write_of, shown_value, blank, register_label, open_label, read_label, write_label, due}
+use Rattle.serving_place.specs.Serving.{Serving, IsFree, number, owner, owes_token, state_of, has_token, tokens_out}
+use Rattle.serving_place.specs.Operations.{register_of, procedure_place}
+use Rattle.serving_place.specs.Beginning.{program_of}
+use Rattle.serving_place.specs.Places.{Place}
+use Rattle.serving_place.specs.Due.{Due, Nothing, Saying, Awaiting, Doing, due}
+use Rattle.serving_place.specs.Setting.{first_cause}
+use Rattle.handler_ops.specs.Course.{is_held, has_job, read_of, write_of, shown_value, blank, register_label, open_label, read_label, write_label}
 use Rattle.handler_ops.specs.Conditions.{IsSound}
 use Rattle.handler_ops.specs.NextRow.{desk_row, reading_row, writing_row, start_row, starting_row, checking_row, waiting_row, operation_row, due_row, row_of}
 use Rattle.rendezvous_machine.specs.Machines.{Machine, member, is_here}

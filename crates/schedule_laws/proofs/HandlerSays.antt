@@ -13,7 +13,8 @@ use Rattle.save_state_access.specs.Writing.{WriteAnswer}
 use Rattle.cpu_table.specs.Data.{SetupData}
 use Rattle.sync_words.specs.declared.label.Label.{Label}
 use Rattle.sync_words.specs.declared.label.Label.TheVariants as say
-use Rattle.handler_ops.specs.Course.{Setting, read_of, write_of, shown_value, value_on, low_bytes, blank}
+use Rattle.serving_place.specs.Setting.{Setting}
+use Rattle.handler_ops.specs.Course.{read_of, write_of, shown_value, value_on, low_bytes, blank}
 use Rattle.rendezvous_machine.specs.Machines.{Machine, Member, IsBsp, member, nobody}
 use Rattle.rendezvous_machine.specs.Listed.{CanSay}
 use Rattle.rendezvous_machine.specs.Refusals.{refusal}

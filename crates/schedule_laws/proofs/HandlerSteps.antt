@@ -19,15 +19,15 @@ use Rattle.handler_registry.specs.declared.registration.Registration.{Registrati
 use Rattle.handler_registry.specs.Registrations.{is_full}
 use Rattle.smi_manage.specs.declared.running.Running.{Running}
 use Rattle.smi_manage.specs.Answers.{ended_with}
-use Rattle.handler_ops.specs.declared.seat.Seat.{Seat}
-use Rattle.handler_ops.specs.declared.seat.Seat.TheVariants.{Free, Open, Done}
-use Rattle.handler_ops.specs.declared.token.Token.{Token}
-use Rattle.handler_ops.specs.declared.token.TokenState.{TokenState}
-use Rattle.handler_ops.specs.Serving.{Serving, IsFree, IsDone, IsOutOn, HasEnded, number, put_on, dropped, collected, put_result, owner, state_of, token_of, with_token}
-use Rattle.handler_ops.specs.Operations.{Fits, after, Collects, ReadShows, WriteShows, CheckShows, WaitShows, RegisterShows, register_on, drop_on, Starts}
-use Rattle.handler_ops.specs.Forms.{Own, status_of, by_left, by_turn, by_collect, turn_of}
-use Rattle.handler_ops.specs.Beginning.{program_of}
-use Rattle.handler_ops.specs.Places.{Call, OpenWalk, Begun, First, Started, Awaited, Place, one_less, levels_left, at_left, at_turn, at_collect, place_at, place_begun, begun_by, MayOperate, after_operating, with_walk, MayOpen, MayDo, after_doing, MayTurn, after_turn, MayInCall, after_in_call, MayInWalk, after_in_walk, MayInWalks, after_in_walks, MayBegun, after_begun, Accepts, next}
+use Rattle.serving_place.specs.declared.seat.Seat.{Seat}
+use Rattle.serving_place.specs.declared.seat.Seat.TheVariants.{Free, Open, Done}
+use Rattle.serving_place.specs.declared.token.Token.{Token}
+use Rattle.serving_place.specs.declared.token.TokenState.{TokenState}
+use Rattle.serving_place.specs.Serving.{Serving, IsFree, IsDone, IsOutOn, HasEnded, number, put_on, dropped, collected, put_result, owner, state_of, token_of, with_token}
+use Rattle.serving_place.specs.Operations.{Fits, after, Collects, ReadShows, WriteShows, CheckShows, WaitShows, RegisterShows, register_on, drop_on, Starts}
+use Rattle.serving_place.specs.Forms.{Own, status_of, by_left, by_turn, by_collect, turn_of}
+use Rattle.serving_place.specs.Beginning.{program_of}
+use Rattle.serving_place.specs.Places.{Call, OpenWalk, Begun, First, Started, Awaited, Place, one_less, levels_left, at_left, at_turn, at_collect, place_at, place_begun, begun_by, MayOperate, after_operating, with_walk, MayOpen, MayDo, after_doing, MayTurn, after_turn, MayInCall, after_in_call, MayInWalk, after_in_walk, MayInWalks, after_in_walks, MayBegun, after_begun, Accepts, next}
 use Rattle.schedule_laws.proofs.HandlerFits.{IsOp, AreOps, CallFits, WalksFit, BegunFits, PlaceFits, ops_fit, first_op}
 
 -- a place with these jobs

@@ -15,14 +15,15 @@ use Rattle.smram_pool.specs.State.{PoolState}
 use Rattle.handler_ops.specs.declared.desk.Desk.{Desk}
 use Rattle.handler_ops.specs.declared.desk.Job.{Job}
 use Rattle.handler_ops.specs.declared.row.Row.TheVariants as told
-use Rattle.handler_ops.specs.declared.seat.Seat.{Seat as JobSeat}
-use Rattle.handler_ops.specs.Serving.{Serving, HasOpen, run_at}
-use Rattle.handler_ops.specs.Serving as serving
-use Rattle.handler_ops.specs.Forms.{Event}
-use Rattle.handler_ops.specs.Beginning.{at_begin, program_of, walks_of}
-use Rattle.handler_ops.specs.Places.{Place, at_first, HasMore, IsOver}
-use Rattle.handler_ops.specs.Stands.{Leads}
-use Rattle.handler_ops.specs.Course.{Setting, Course, has_job, is_held}
+use Rattle.serving_place.specs.declared.seat.Seat.{Seat as JobSeat}
+use Rattle.serving_place.specs.Serving.{Serving, HasOpen, run_at}
+use Rattle.serving_place.specs.Serving as serving
+use Rattle.serving_place.specs.Forms.{Event}
+use Rattle.serving_place.specs.Beginning.{at_begin, program_of, walks_of}
+use Rattle.serving_place.specs.Places.{Place, at_first, HasMore, IsOver}
+use Rattle.serving_place.specs.Stands.{Leads}
+use Rattle.serving_place.specs.Setting.{Setting}
+use Rattle.handler_ops.specs.Course.{Course, has_job, is_held}
 use Rattle.handler_ops.specs.Conditions.{IsSound, beginning}
 use Rattle.handler_ops.specs.NextRow.{row_of}
 use Rattle.handler_ops.specs.Told.{handed_as}

@@ -9,10 +9,9 @@ use Rattle.save_state_map.specs.Images.{ImageContents}
 use Rattle.cpu_regs.specs.Registers.{Registers}
 use Rattle.cpu_table.specs.Data.{SetupData}
 use Rattle.handler_ops.specs.declared.desk.Desk.{Desk}
-use Rattle.handler_ops.specs.declared.seat.Seat.{Seat as JobSeat}
-use Rattle.handler_ops.specs.declared.seat.Seat.TheVariants.{Free}
-use Rattle.handler_ops.specs.Sessions.{first_session}
-use Rattle.handler_ops.specs.Sessions.{Session as Chair}
+use Rattle.serving_place.specs.declared.seat.Seat.{Seat as JobSeat}
+use Rattle.serving_place.specs.declared.seat.Seat.TheVariants.{Free}
+use Rattle.handler_ops.specs.Sessions.{first_session, Session as Chair}
 use Rattle.cpu_program.specs.declared.cargo.Cargo.{Cargo}
 use Rattle.cpu_program.specs.Actors.{Actor}
 use Rattle.rendezvous_core.specs.Worlds.{World, step, step_of, start, first_words, first_lying, first_actors, own_chair, last_image, last_in, labels, replay_events, replay_world, events_from, world_after, as_cargo, chair_at_first}

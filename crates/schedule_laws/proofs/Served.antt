@@ -2,11 +2,11 @@
 use Rattle.std.proofs.Common.{ℕ, ◌≡◌, ◌<◌, ◌≤◌, arith, List, [], Option, Some, None, sym, ap, subst, ◌∙◌}
 use Rattle.std.specs.Prelude.{IsSomeAnd}
 use Rattle.cpu_table.specs.Data.{SetupData}
-use Rattle.handler_ops.specs.Forms.{Event, IsWhole}
-use Rattle.handler_ops.specs.Beginning.{program_of, walks_of}
-use Rattle.handler_ops.specs.Places.{Place, IsOver}
-use Rattle.handler_ops.specs.Stands.{Leads}
-use Rattle.handler_ops.proofs.Judging.{begins, ends_whole}
+use Rattle.serving_place.specs.Forms.{Event, IsWhole}
+use Rattle.serving_place.specs.Beginning.{program_of, walks_of}
+use Rattle.serving_place.specs.Places.{Place, IsOver}
+use Rattle.serving_place.specs.Stands.{Leads}
+use Rattle.serving_place.proofs.Judging.{begins, ends_whole}
 use Rattle.handler_ops.proofs.Sessions.{stands_along}
 use Rattle.rendezvous_laws.proofs.Places.{leads_after}
 use Rattle.rendezvous_machine.specs.Machines.{Machine, Session}

@@ -9,10 +9,10 @@ use Rattle.cpu_table.specs.Data.{SetupData}
 use Rattle.handler_registry.specs.Registrations.{Registrations}
 use Rattle.smram_pool.specs.State.{PoolState}
 use Rattle.handler_ops.specs.declared.desk.Job.{Job}
-use Rattle.handler_ops.specs.declared.seat.Seat.{Seat as JobSeat}
-use Rattle.handler_ops.specs.declared.seat.Seat.TheVariants.{Free}
+use Rattle.serving_place.specs.declared.seat.Seat.{Seat as JobSeat}
+use Rattle.serving_place.specs.declared.seat.Seat.TheVariants.{Free}
 use Rattle.handler_ops.specs.Answering.{told_on}
-use Rattle.handler_ops.specs.Beginning.{at_begin, walks_of}
+use Rattle.serving_place.specs.Beginning.{at_begin, walks_of}
 use Rattle.handler_ops.specs.Conditions.{beginning}
 use Rattle.handler_ops.specs.Course.{Course}
 use Rattle.handler_ops.specs.Sessions.{Session as Chair, begun_session}

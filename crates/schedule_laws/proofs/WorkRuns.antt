@@ -9,16 +9,16 @@ use Rattle.save_state_map.specs.Images.{ImageContents}
 use Rattle.cpu_table.specs.Data.{SetupData}
 use Rattle.handler_ops.specs.declared.desk.Desk.{Desk}
 use Rattle.handler_ops.specs.declared.desk.Job.{Job}
-use Rattle.handler_ops.specs.declared.seat.Seat.{Seat as JobSeat}
-use Rattle.handler_ops.specs.declared.seat.Seat.TheVariants.{Free}
-use Rattle.handler_ops.specs.Serving.{Serving, HasOpen, run_at}
-use Rattle.handler_ops.specs.Serving as serving
-use Rattle.handler_ops.specs.Forms.{Event, Ran}
-use Rattle.handler_ops.specs.Beginning.{program_of}
-use Rattle.handler_ops.specs.Places.{OpenWalk, Begun, Place, next}
+use Rattle.serving_place.specs.declared.seat.Seat.{Seat as JobSeat}
+use Rattle.serving_place.specs.declared.seat.Seat.TheVariants.{Free}
+use Rattle.serving_place.specs.Serving.{Serving, HasOpen, run_at}
+use Rattle.serving_place.specs.Serving as serving
+use Rattle.serving_place.specs.Forms.{Event, Ran}
+use Rattle.serving_place.specs.Beginning.{program_of}
+use Rattle.serving_place.specs.Places.{OpenWalk, Begun, Place, next}
 use Rattle.handler_ops.specs.Course.{has_job}
 use Rattle.handler_ops.specs.Procedures.{job_on, desk_with}
-use Rattle.handler_ops.specs.Stands.{Leads}
+use Rattle.serving_place.specs.Stands.{Leads}
 use Rattle.cpu_program.specs.declared.cargo.Cargo.{Cargo}
 use Rattle.cpu_program.specs.declared.cargo.Cargo.TheVariants as cargo
 use Rattle.cpu_program.specs.Processors.{is_relaxed, can_run}

@@ -1,9 +1,9 @@
 -- What was told fits what is due, and an answer keeps what a progress keeps.
 use Rattle.std.proofs.Common.{◌∙◌, sym, ap, subst}
-use Rattle.handler_ops.specs.declared.progress.Progress.{Progress}
+use Rattle.serving_place.specs.declared.progress.Progress.{Progress}
 use Rattle.handler_ops.specs.Course.{Course, label_of}
-use Rattle.handler_ops.specs.Sessions.{Session}
-use Rattle.handler_ops.specs.Progresses.{Goes, session_in, course_in, setting_in, place_in}
+use Rattle.handler_ops.specs.Sessions.{Session, session_in, course_in}
+use Rattle.serving_place.specs.Progresses.{Goes, setting_in, place_in}
 use Rattle.handler_ops.specs.Answering.{HasTold, move_as}
 use Rattle.handler_ops.proofs.Going.{told_fits, answer_goes}
 use Rattle.handler_ops.proofs.server.Server.answer.Goals as goal
@@ -19,7 +19,7 @@ invariant_of-self c =
     let goes = answer_goes (setting_in p) (course_in p) c.self.inside.told c.args.found c.args.held.now.desks p.setup.processors fits c.self.invariant.goes in
     record {
       goes =
-          subst (λ n. Goes n (place_in c.answer.new.self)) (sym (ap (λ (q : Progress). q.setup.processors) c.answer.ensures.stays))
+          subst (λ n. Goes n (place_in c.answer.new.progress)) (sym (ap (λ (q : Progress). q.setup.processors) c.answer.ensures.stays))
           (subst (λ (k : Course). Goes p.setup.processors k.place) (sym c.answer.ensures.course) goes);
       room = rw (c.answer.ensures.room) c.self.invariant.room;
     }

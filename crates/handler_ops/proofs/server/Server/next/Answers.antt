@@ -1,8 +1,8 @@
 -- The need of the row is that of the course.
 use Rattle.std.proofs.Common.{◌∙◌, ap}
 use Rattle.handler_ops.specs.Course.{need_of}
-use Rattle.handler_ops.specs.Progresses.{setting_in, course_in}
-use Rattle.handler_ops.specs.Sessions.{Session, setting_of}
+use Rattle.serving_place.specs.Progresses.{setting_in}
+use Rattle.handler_ops.specs.Sessions.{course_in, Session, setting_of}
 use Rattle.handler_ops.specs.Told.{need_as}
 use Rattle.handler_ops.proofs.RowSteps.{need_of_row}
 use Rattle.handler_ops.proofs.server.Server.next.Goals as goal
@@ -10,6 +10,6 @@ use Rattle.handler_ops.proofs.server.Server.next.Goals as goal
 pub returns-clause-need : goal.returns-clause-need
 returns-clause-need c =
     c.need_of.ensures
-    ∙ ap need_as c.row-row.ensures
+    ∙ ap need_as c.row_of-row.ensures
     ∙ need_of_row (setting_in c.self.inside.progress) c.args.held.now.desks (course_in c.self.inside.progress)
     ∙ ap (λ (v : Session). need_of (setting_of v) c.args.held.now.desks v.course) c.self.view_is

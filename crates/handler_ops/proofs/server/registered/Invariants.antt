@@ -1,6 +1,0 @@
-use Rattle.std.proofs.Common.{◌≡◌, drop}
-use Rattle.handler_ops.specs.Sessions.{registered_from, registrations_of}
-use Rattle.handler_ops.proofs.server.registered.Given as goal
-
-abbrev pub invariant-loop-place : goal.invariant-loop-place
-invariant-loop-place l = registered_from l.place (drop l.place l.handlers) l.registry ≡ registrations_of l.handlers

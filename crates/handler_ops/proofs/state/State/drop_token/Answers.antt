@@ -1,6 +1,0 @@
--- There are no more tokens than before.
-use Rattle.handler_ops.proofs.Room.{bounded_dropped}
-use Rattle.handler_ops.proofs.state.State.drop_token.Goals as goal
-
-pub invariant_of-self : goal.invariant_of-self
-invariant_of-self c = bounded_dropped c.self.inside.seats.items c.self.inside.tokens c.drop_job.new.self c.drop_job.ensures.few c.self.invariant

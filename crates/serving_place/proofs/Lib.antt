@@ -1,0 +1,16 @@
+pub mod Steps
+pub mod Runs
+pub mod Completion
+pub mod Numbers
+pub mod Judging
+pub mod Seats
+pub mod Examples
+pub mod Lists
+pub mod Turns
+pub mod Looks
+pub mod Changes
+pub mod Room
+pub mod Stack
+pub mod Turned
+pub mod Doing
+pub mod Going

@@ -1,0 +1,13 @@
+pub mod Serving
+pub mod Operations
+pub mod Forms
+pub mod Beginning
+pub mod Places
+pub mod Stands
+pub mod Due
+pub mod Setting
+pub mod Progresses
+pub mod Bounds
+pub mod Sayings
+pub mod Calling
+pub mod Moves
