@@ -1,5 +1,5 @@
 -- Each test of an operation's label tells that the label fits.
-use Rattle.std.proofs.Common.{◌≡◌, ◌<◌, ℕ, zero, suc, ◌+◌, Bool, true, false, List, length, Option, Some, None, Result, Ok, Err, refl, ap}
+use Rattle.std.proofs.Common.{◌≡◌, ◌≢◌, ◌<◌, ℕ, zero, suc, ◌+◌, Bool, true, false, List, length, Option, Some, None, Result, Ok, Err, refl, ap}
 use Rattle.std.specs.Prelude.{◌==◌, nat_lt, ◌&&◌, not, slice_index_or}
 use Rattle.smm_base.specs.declared.kinds.HandlerType.{HandlerType}
 use Rattle.smm_base.specs.declared.status.Status.{Status}
@@ -14,7 +14,11 @@ use Rattle.sync_words.specs.declared.label.Label.TheVariants as say
 use Rattle.handler_registry.specs.Registrations.{is_live, is_full}
 use Rattle.smram_pool.specs.declared.error.PoolError.{PoolError}
 use Rattle.smram_pool.specs.State.{allocated, freed}
-use Rattle.serving_place.specs.Serving.{Serving, Seat, Free, Open, Done, TokenState, NotOut, Uncollected, Collected, number, seat, token_of, HasOpen, IsFree, IsDone, HasEnded, IsOutOn}
+use Rattle.serving_place.specs.Serving.{Serving, number, seat, token_of, HasOpen, IsFree, IsDone, HasEnded, IsOutOn}
+use Rattle.serving_place.specs.declared.seat.Seat.{Seat}
+use Rattle.serving_place.specs.declared.seat.Seat.TheVariants.{Free, Open, Done}
+use Rattle.serving_place.specs.declared.token.TokenState.{TokenState}
+use Rattle.serving_place.specs.declared.token.TokenState.TheVariants.{NotOut, Uncollected, Collected}
 use Rattle.serving_place.specs.Operations.{register_of, pool_status, free_status, unregister_status, procedure_place, ReadShows, WriteShows, CheckShows, WaitShows, AllocShows, RegisterShows, Starts, Fits, Collects}
 use Rattle.serving_place.specs.Places.{MayOpen, MayOperate, MayDo}
 use Rattle.serving_judge.specs.Words.{is_status, is_register}
@@ -194,3 +198,8 @@ operates_less ps o s m l = fits_less ps o s m l
 pub does_less : (ps : List ProcedureDef) (n : ℕ) (o : OpDef) (s : Serving) (m : ℕ) (l : Label) → does ps n o (record s { left = m }) l ≡ does ps n o s l
 does_less ps n (op.Manage kind) s m l = refl
 does_less ps n o s m l = operates_less ps o s m l
+
+-- an operation that is no manage
+pub does_other : (ps : List ProcedureDef) (n : ℕ) (o : OpDef) (s : Serving) (l : Label) → ((kind : HandlerType) → o ≢ op.Manage kind) → does ps n o s l ≡ operates ps o s l
+does_other ps n (op.Manage kind) s l h = absurd (h kind refl)
+does_other ps n _ s l h = refl

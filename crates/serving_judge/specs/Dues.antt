@@ -9,7 +9,9 @@ use Rattle.serving_place.specs.Operations.{procedure_place}
 use Rattle.serving_place.specs.Forms.{Program, operations_of}
 use Rattle.serving_place.specs.Due.{Due, Nothing, Saying, Awaiting, Doing}
 use Rattle.serving_place.specs.Setting.{Setting, first_cause}
-use Rattle.serving_place.specs.Sayings.{Saying as Said, Known, Allocation, Release, HasRoom}
+use Rattle.serving_place.specs.declared.saying.Saying.{Saying as Said}
+use Rattle.serving_place.specs.declared.saying.Saying.TheVariants.{Known, Allocation, Release}
+use Rattle.serving_place.specs.Sayings.{HasRoom}
 use Rattle.serving_judge.specs.declared.next.Next.{Next}
 use Rattle.serving_judge.specs.declared.next.Next.TheVariants as next
 use Rattle.serving_judge.specs.declared.next.StartDue.{StartDue}

@@ -31,6 +31,6 @@ first_judging d = record { setup = d; bsp = 0; place = ended (at_begin d (regist
 abbrev pub begun : ℕ → ℕ → Judging → Judging
 begun bsp wave j = record j { bsp = bsp; place = at_first wave (walks_of j.setup.waves wave) (begins_with j) }
 
--- no list goes on
+-- no list goes on, as before the first session
 abbrev pub finished : Judging → Judging
-finished j = record j { place = ended (begins_with j) }
+finished j = record j { bsp = 0; place = ended (begins_with j) }

@@ -11,7 +11,11 @@ use Rattle.sync_words.specs.declared.label.Label.TheVariants as say
 use Rattle.handler_registry.specs.Registrations.{is_live, is_full}
 use Rattle.smram_pool.specs.declared.error.PoolError.{PoolError}
 use Rattle.smram_pool.specs.State.{allocated, freed}
-use Rattle.serving_place.specs.Serving.{Serving, Seat, Free, Open, Done, TokenState, NotOut, Uncollected, Collected, number, seat, token_of}
+use Rattle.serving_place.specs.Serving.{Serving, number, seat, token_of}
+use Rattle.serving_place.specs.declared.seat.Seat.{Seat}
+use Rattle.serving_place.specs.declared.seat.Seat.TheVariants.{Free, Open, Done}
+use Rattle.serving_place.specs.declared.token.TokenState.{TokenState}
+use Rattle.serving_place.specs.declared.token.TokenState.TheVariants.{NotOut, Uncollected, Collected}
 use Rattle.serving_place.specs.Operations.{register_of, pool_status, free_status, unregister_status, procedure_place}
 use Rattle.serving_place.specs.Forms.{Program}
 use Rattle.serving_place.specs.Places.{Place}

@@ -1,4 +1,4 @@
-ghost use Rattle.std.specs.Prelude.{◌≡◌, IfOk, true};
+ghost use Rattle.std.specs.Prelude.{◌≡◌, IfOk, slice_index_or, true};
 ghost use Rattle.cpu_table.specs.Data.{data_of};
 ghost use Rattle.serving_place.specs.Beginning.{program_of};
 ghost use Rattle.serving_place.specs.Due.{due};
@@ -84,11 +84,26 @@ impl Judge {
     pub fn finish(&mut self)
         ensures { self.new ≡ finished self.old }
     {
+        self.progress.me = 0;
         self.progress.wave = 0;
         self.progress.entry = 0;
         self.progress.walks.clear();
         self.progress.pending = Pending::Nothing;
         self.progress.state.begin(self.progress.setup.ops);
+    }
+
+    /// The platform.
+    pub fn setup(&self) -> &Setup
+        ensures { data_of result.now ≡ self.now.setup }
+    {
+        &self.progress.setup
+    }
+
+    /// The id of a processor, or 0 where the platform hasn't the processor.
+    pub fn id_of(&self, cpu: u16) -> u64
+        ensures { result ≡ slice_index_or self.now.setup.ids cpu 0 }
+    {
+        self.progress.id_of(cpu)
     }
 
     /// The boot processor may say this label next: the list with it can be made whole.

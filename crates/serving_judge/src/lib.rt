@@ -10,3 +10,4 @@ mod words;
 
 pub use judge::Judge;
 pub use next::StartDue;
+pub use words::is_status;

@@ -3,8 +3,9 @@ ghost use Rattle.serving_place.specs.Due.{due};
 ghost use Rattle.serving_place.specs.Progresses.{program_in, place_in, setting_in};
 ghost use Rattle.serving_place.specs.Places.{levels_left};
 ghost use Rattle.serving_place.specs.Operations.{procedure_place};
+ghost use Rattle.serving_place.specs.Serving.{number};
 ghost use Rattle.serving_place.specs.Setting.{first_cause};
-ghost use Rattle.serving_judge.specs.Tests.{fits, collects, opens, operates, does, accepts_own, is_nothing, accepts_run};
+ghost use Rattle.serving_judge.specs.Tests.{fits_start, fits, collects, opens, operates, does, accepts_own, is_nothing, accepts_run};
 ghost use Rattle.serving_judge.specs.Dues.{start_of, start_due, width_of, width_due, saying_of};
 
 use crate::due::due;
@@ -14,10 +15,24 @@ use crate::fits::{
 };
 use crate::next::{Next, StartDue};
 use crate::words::{is_collect, is_deep, is_label, is_manage};
-use cpu_table::{OpDef, Text};
+use cpu_table::{OpDef, Operand, Text};
 use serving_place::{Progress, Saying, State};
 use smm_base::HandlerType;
 use sync_words::Label;
+
+// The label of an operation that gives a job.
+fn fits_job(progress: &Progress, cpu: u16, procedure: &Text, arg: Operand, label: Label) -> bool
+    ensures { result ≡ fits_start progress.now.state cpu (procedure_place progress.now.setup.procedures procedure.now) (number progress.now.state arg) label }
+{
+    let state = &progress.state;
+    fits_start(
+        state,
+        cpu,
+        progress.place_of(procedure),
+        state.number(arg),
+        label,
+    )
+}
 
 // The own label of an operation.
 fn fits(progress: &Progress, op: &OpDef, label: Label) -> bool
@@ -43,25 +58,13 @@ fn fits(progress: &Progress, op: &OpDef, label: Label) -> bool
             procedure,
             arg,
             ..
-        } => fits_start(
-            state,
-            *cpu,
-            progress.place_of(procedure),
-            state.number(*arg),
-            label,
-        ),
+        } => fits_job(progress, *cpu, procedure, *arg, label),
         OpDef::Launch {
             cpu,
             procedure,
             arg,
             ..
-        } => fits_start(
-            state,
-            *cpu,
-            progress.place_of(procedure),
-            state.number(*arg),
-            label,
-        ),
+        } => fits_job(progress, *cpu, procedure, *arg, label),
         OpDef::Check { token } => fits_check(state, state.number(*token), label),
         OpDef::Wait { token, .. } => fits_wait(state, state.number(*token), label),
         OpDef::Alloc { size, .. } => fits_alloc(state, state.number(*size), label),
