@@ -11,7 +11,8 @@ use Rattle.serving_place.specs.Setting.{Setting}
 use Rattle.handler_ops.specs.Course.{Desks, JobDone, done_job, done_on, after_all, with_run}
 use Rattle.handler_ops.specs.Told.{read_at_hand, write_at_hand}
 use Rattle.handler_ops.specs.Answering.{job_on, ran_by}
-use Rattle.serving_place.specs.Sayings.{Known, Fits}
+use Rattle.serving_place.specs.declared.saying.Saying.TheVariants.{Known}
+use Rattle.serving_place.specs.Sayings.{Fits}
 
 pub done_is : (d : Option Desk) → done_on d ≡ done_job (job_on d)
 done_is None = refl

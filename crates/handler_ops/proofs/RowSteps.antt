@@ -9,7 +9,9 @@ use Rattle.sync_words.specs.declared.label.Label.{Label}
 use Rattle.sync_words.specs.declared.label.Label.TheVariants as say
 use Rattle.handler_ops.specs.declared.row.Row.{Row}
 use Rattle.handler_ops.specs.declared.row.Row.TheVariants as row
-use Rattle.serving_place.specs.Serving.{Serving, TokenState, NotOut, Uncollected, Collected, number, seat, token_of}
+use Rattle.serving_place.specs.declared.token.TokenState.{TokenState}
+use Rattle.serving_place.specs.declared.token.TokenState.TheVariants.{NotOut, Uncollected, Collected}
+use Rattle.serving_place.specs.Serving.{Serving, number, seat, token_of}
 use Rattle.serving_place.specs.Operations.{procedure_place}
 use Rattle.serving_place.specs.Setting.{Setting, first_cause}
 use Rattle.serving_place.specs.Due.{Due, Nothing, Saying, Awaiting, Doing, due}

@@ -19,7 +19,11 @@ use Rattle.smi_manage.specs.declared.running.Running.{Running}
 use Rattle.smram_pool.specs.declared.error.PoolError.{PoolError}
 use Rattle.smram_pool.specs.State.{allocated}
 use Rattle.handler_ops.specs.declared.need.Need.TheVariants as need
-use Rattle.serving_place.specs.Serving.{Serving, Seat, Free, Open, Done, TokenState, NotOut, Uncollected, Collected, number, seat, ran, token_of, state_of, HasOpen, IsFree, IsDone, HasEnded}
+use Rattle.serving_place.specs.declared.seat.Seat.{Seat}
+use Rattle.serving_place.specs.declared.seat.Seat.TheVariants.{Free, Open, Done}
+use Rattle.serving_place.specs.declared.token.TokenState.{TokenState}
+use Rattle.serving_place.specs.declared.token.TokenState.TheVariants.{NotOut, Uncollected, Collected}
+use Rattle.serving_place.specs.Serving.{Serving, number, seat, ran, token_of, state_of, HasOpen, IsFree, IsDone, HasEnded}
 use Rattle.serving_place.specs.Operations.{procedure_place, ReadShows, WriteShows, alloc_label}
 use Rattle.serving_place.specs.Forms.{Own, Program, by_left, by_turn, turn_of}
 use Rattle.serving_place.specs.Places.{Call, OpenWalk, Begun, First, Started, Awaited, Place, levels_left, MayDo, MayTurn, MayInCall, MayInWalk, MayInWalks, MayBegun, HasMore, Accepts, IsOver}

@@ -19,7 +19,11 @@ use Rattle.smi_manage.specs.declared.running.Running.{Running}
 use Rattle.smram_pool.specs.declared.error.PoolError.{PoolError}
 use Rattle.smram_pool.specs.State.{PoolState, allocated, freed}
 use Rattle.handler_ops.specs.declared.need.Need.TheVariants as need
-use Rattle.serving_place.specs.Serving.{Serving, Seat, Free, Open, TokenState, NotOut, Uncollected, Collected, number, seat, ran, run_at, token_of, IsFree, IsDone}
+use Rattle.serving_place.specs.declared.seat.Seat.{Seat}
+use Rattle.serving_place.specs.declared.seat.Seat.TheVariants.{Free, Open}
+use Rattle.serving_place.specs.declared.token.TokenState.{TokenState}
+use Rattle.serving_place.specs.declared.token.TokenState.TheVariants.{NotOut, Uncollected, Collected}
+use Rattle.serving_place.specs.Serving.{Serving, number, seat, ran, run_at, token_of, IsFree, IsDone}
 use Rattle.serving_place.specs.Operations.{procedure_place, free_status, unregister_status, alloc_label}
 use Rattle.serving_place.specs.Forms.{Event, Program, IsWhole, IsPrefix, turn_of}
 use Rattle.serving_place.specs.Beginning.{at_begin}

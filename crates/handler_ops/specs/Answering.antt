@@ -8,7 +8,8 @@ use Rattle.handler_ops.specs.declared.row.Row.TheVariants as row
 use Rattle.handler_ops.specs.Course.{Desks, JobDone, Move, desk_of, is_held, moved, write_of}
 use Rattle.serving_place.specs.Places.{Place}
 use Rattle.serving_place.specs.Serving.{Serving, ran}
-use Rattle.serving_place.specs.Sayings.{Known, Allocation, Release, Fits}
+use Rattle.serving_place.specs.declared.saying.Saying.TheVariants.{Known, Allocation, Release}
+use Rattle.serving_place.specs.Sayings.{Fits}
 use Rattle.handler_ops.specs.NextRow.{row_of}
 use Rattle.handler_ops.specs.Sessions.{Session, setting_of}
 use Rattle.handler_ops.specs.Told.{step_as}

@@ -24,7 +24,11 @@ use Rattle.handler_ops.specs.declared.need.Need.{Need}
 pub use Rattle.handler_ops.specs.declared.reach.Reach.{Reach}
 pub use Rattle.handler_ops.specs.declared.reach.Reach.TheVariants.{Outside, AtHand, Working, Elsewhere}
 use Rattle.handler_ops.specs.declared.need.Need.TheVariants as need
-use Rattle.serving_place.specs.Serving.{Serving, Seat, Free, Open, Done, TokenState, NotOut, Uncollected, Collected, number, seat, token_of}
+use Rattle.serving_place.specs.declared.seat.Seat.{Seat}
+use Rattle.serving_place.specs.declared.seat.Seat.TheVariants.{Free, Open, Done}
+use Rattle.serving_place.specs.declared.token.TokenState.{TokenState}
+use Rattle.serving_place.specs.declared.token.TokenState.TheVariants.{NotOut, Uncollected, Collected}
+use Rattle.serving_place.specs.Serving.{Serving, number, seat, token_of}
 use Rattle.serving_place.specs.Operations.{register_of, free_status, unregister_status, procedure_place, alloc_label}
 use Rattle.serving_place.specs.Forms.{Event, Own, Ran, Program}
 use Rattle.serving_place.specs.Places.{Place, next}

@@ -3,7 +3,8 @@ use Rattle.std.specs.Prelude.{ℕ, false, Option, Some, None}
 use Rattle.cpu_table.specs.Data.{SetupData, data_of}
 use Rattle.handler_ops.specs.declared.row.Row.{Row}
 use Rattle.handler_ops.specs.declared.row.Row.TheVariants as row
-use Rattle.serving_place.specs.Serving.{Seat, Free, Open, Done}
+use Rattle.serving_place.specs.declared.seat.Seat.{Seat}
+use Rattle.serving_place.specs.declared.seat.Seat.TheVariants.{Free, Open, Done}
 use Rattle.serving_place.specs.Beginning.{at_begin, program_of, walks_of, registrations_of, pool_at_first}
 use Rattle.serving_place.specs.Places.{ended}
 use Rattle.serving_place.specs.Setting.{Setting}

@@ -143,6 +143,7 @@ impl State {
         self.left
     }
 
+    /// What is registered.
     pub fn registrations(&self) -> &Registry
         ensures { result.now ≡ self.now.registrations }
     {

@@ -55,6 +55,7 @@ impl Tokens {
         Ok(Tokens { tokens })
     }
 
+    /// How many tokens of collected jobs there are.
     pub fn len(&self) -> usize
         ensures len { result ≡ length self.now }
         ensures few { length self.now ≤ 64 }

@@ -3,7 +3,8 @@ use Rattle.std.proofs.Common.{sym, subst}
 use Rattle.sync_words.specs.declared.label.Label.{Label}
 use Rattle.serving_place.specs.Due.{due}
 use Rattle.serving_place.specs.Progresses.{program_in, place_in, setting_in}
-use Rattle.serving_place.specs.Sayings.{Known, Fits, operation_due}
+use Rattle.serving_place.specs.declared.saying.Saying.TheVariants.{Known}
+use Rattle.serving_place.specs.Sayings.{Fits, operation_due}
 use Rattle.handler_ops.proofs.Answered.{read_fits}
 use Rattle.handler_ops.proofs.answering.answer.Goals as goal
 
