@@ -148,7 +148,7 @@ fn write_to(item: &mut Option<Desk>, reg: u32, width: u8, value: u64) -> Status
     ensures desk { item.new ≡ option_map (written_on reg width value) item.old }
 {
     match item {
-        Some(desk) => write_number(&mut desk.image, reg, usize::from(width), value),
+        Some(desk) => write_number(&mut desk.image, true, reg, usize::from(width), value),
         None => Status::InvalidParameter,
     }
 }

@@ -17,5 +17,5 @@ pub use desk::{Desk, Job};
 pub use held::{Desks, Held};
 pub use laws::courses;
 pub use need::Need;
-pub use procedure::run_job;
+pub use procedure::{read_number, run_job, write_number};
 pub use server::Server;

@@ -57,17 +57,18 @@ fn put_register(image: &mut Image, reg: u32, number: u64) -> Status
     ensures image { image.new ≡ (write_whole image.old reg number).image }
 {
     let width = own_width(image.kind(), reg);
-    write_number(image, reg, width, number)
+    write_number(image, true, reg, width, number)
 }
 
-// Writes the low bytes of a number, as many as the width. Those above the eighth are 0.
-pub fn write_number(image: &mut Image, reg: u32, width: usize, number: u64) -> Status
-    ensures status { result ≡ (write_of true image.old reg width number).status }
-    ensures image { image.new ≡ (write_of true image.old reg width number).image }
+/// Writes the low bytes of a number, as many as the width. Those above the eighth are 0. `present` says whether the image
+/// may be written.
+pub fn write_number(image: &mut Image, present: bool, reg: u32, width: usize, number: u64) -> Status
+    ensures status { result ≡ (write_of present image.old reg width number).status }
+    ensures image { image.new ≡ (write_of present image.old reg width number).image }
 {
     let mut bytes = [0; 24];
     LittleEndian::write_u64(&mut bytes, number);
-    write_register(image, true, reg, first_bytes(&bytes, width))
+    write_register(image, present, reg, first_bytes(&bytes, width))
 }
 
 fn first_bytes(bytes: &[u8], count: usize) -> &[u8]
@@ -77,7 +78,7 @@ fn first_bytes(bytes: &[u8], count: usize) -> &[u8]
     &bytes[..count]
 }
 
-// What a read of so many bytes of a register shows: the number in the first 8 of them, or 0, and the status.
+/// What a read of so many bytes of a register shows: the number in the first 8 of them, or 0, and the status.
 pub fn read_number(image: &Image, present: bool, id: u64, reg: u32, width: usize) -> (u64, Status)
     requires { width ≤ 256 }
     ensures number { result.0 ≡ shown_value (read_answer image.now present id reg (replicate width 0)) }

@@ -18,5 +18,5 @@ pub use place::next_handler;
 pub use progress::{Called, MOST_LEVELS, Pending, Progress, Walk};
 pub use saying::Saying;
 pub use seat::Seat;
-pub use state::State;
+pub use state::{State, pool_status};
 pub use token::{MOST_TOKENS, Token, TokenState, Tokens};

@@ -150,6 +150,20 @@ impl State {
         &self.registrations
     }
 
+    /// The pool as it is now.
+    pub fn pool(&self) -> &Pool
+        ensures { result.now ≡ self.now.pool }
+    {
+        &self.pool
+    }
+
+    /// How many processors there are.
+    pub fn processors(&self) -> usize
+        ensures { result ≡ length self.now.seats }
+    {
+        self.seats.len()
+    }
+
     /// A unit begins.
     pub fn begin_unit(&mut self)
         requires { 0 < self.old.left }
@@ -364,7 +378,8 @@ fn add_token(tokens: &mut Tokens, cpu: u16, seat: Seat)
     }
 }
 
-fn pool_status(error: PoolError) -> Status
+/// The status of a request that the pool refused.
+pub fn pool_status(error: PoolError) -> Status
     ensures { result ≡ pool_status error }
 {
     match error {

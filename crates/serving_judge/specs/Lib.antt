@@ -1,0 +1,4 @@
+pub mod Words
+pub mod Tests
+pub mod Dues
+pub mod Judging

@@ -1,0 +1,9 @@
+pub mod Writes
+pub mod Kinds
+pub mod Counting
+pub mod Speaking
+pub mod Keeping
+pub mod Processors
+pub mod Rules
+pub mod Seeing
+pub mod Checking
