@@ -1,6 +1,5 @@
 -- The answer of a need: the job that a desk brought, and what the labels of a look want.
-use Rattle.std.proofs.Common.{◌≡◌, ◌∙◌, ℕ, Bool, Option, Some, None, refl, sym, ap, subst}
-use Rattle.smm_base.specs.declared.status.Status.{Status}
+use Rattle.std.proofs.Common.{◌≡◌, ◌∙◌, ℕ, Option, Some, None, refl}
 use Rattle.cpu_table.specs.declared.handlers.OpDef.{OpDef}
 use Rattle.sync_words.specs.declared.label.Label.TheVariants as say
 use Rattle.handler_ops.specs.declared.desk.Desk.{Desk}

@@ -1,15 +1,12 @@
 -- What a row says fits the operation that is due.
-use Rattle.std.proofs.Common.{◌≡◌, ◌<◌, ◌+◌, ◌&&◌, ℕ, zero, suc, Bool, true, false, Option, Some, None, List, refl, arith, cond}
-use Rattle.std.proofs.lemmas.Bool.{le-leb, lt-leb}
-use Rattle.std.specs.Prelude.{◌==◌, not, nat_lt, nat_le, if◌then◌else◌, is_none, unwrap_or}
+use Rattle.std.proofs.Common.{◌≡◌, ◌<◌, ◌+◌, ◌&&◌, ℕ, zero, suc, Bool, true, false, Option, Some, None, refl, arith}
+use Rattle.std.specs.Prelude.{◌==◌, not, nat_lt, nat_le, if◌then◌else◌, is_none}
 use Rattle.smm_base.specs.declared.kinds.HandlerType.{HandlerType}
 use Rattle.smm_base.specs.declared.status.Status.{Status}
 use Rattle.cpu_table.specs.declared.handlers.OpDef.{OpDef}
 use Rattle.cpu_table.specs.declared.handlers.OpDef.TheVariants as op
-use Rattle.cpu_table.specs.declared.handlers.Operand.{Operand}
 use Rattle.sync_words.specs.declared.label.StartRefusal.{StartRefusal}
 use Rattle.sync_words.specs.declared.label.StartRefusal.TheVariants as cause
-use Rattle.sync_words.specs.declared.label.Label.{Label}
 use Rattle.sync_words.specs.declared.label.Label.TheVariants as say
 use Rattle.handler_registry.specs.Registrations.{is_full}
 use Rattle.handler_ops.specs.declared.row.Row.{Row}
@@ -21,8 +18,8 @@ use Rattle.serving_place.specs.Operations.{procedure_place}
 use Rattle.serving_place.specs.Setting.{Setting, first_cause}
 use Rattle.serving_place.specs.Due.{Due, Nothing, Saying, Awaiting, Doing, due}
 use Rattle.handler_ops.specs.Course.{Course, Desks, Reach, Outside, AtHand, Working, Elsewhere, reach, has_job, is_held, read_label, write_label, register_label, open_label}
-use Rattle.handler_ops.specs.NextRow.{desk_row, start_row, starting_row, checking_row, waiting_row, operation_row, due_row, row_of}
-use Rattle.serving_place.specs.Sayings.{LabelFits, HasRoom, Fits, operation_due}
+use Rattle.handler_ops.specs.NextRow.{desk_row, start_row, checking_row, waiting_row, operation_row, due_row, row_of}
+use Rattle.serving_place.specs.Sayings.{LabelFits, HasRoom, operation_due}
 use Rattle.handler_ops.specs.Answering.{RowFits}
 
 read_fits : (o : OpDef) (s : Serving) (r : Reach) (c reg width : ℕ) (S : Status) → RowFits (desk_row r c (read_label c reg width 0) S (row.Reading c reg width)) (Some o) s

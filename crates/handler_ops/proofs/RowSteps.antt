@@ -1,6 +1,5 @@
 -- The row of a course stands for its step.
-use Rattle.std.proofs.Common.{◌≡◌, ℕ, zero, suc, Bool, true, false, Option, Some, None, refl, sym, ap, ◌∙◌}
-use Rattle.smm_base.specs.declared.status.Status.{Status}
+use Rattle.std.proofs.Common.{◌≡◌, ℕ, Bool, true, false, Option, Some, None, refl, sym, ap, ◌∙◌}
 use Rattle.cpu_table.specs.declared.handlers.OpDef.{OpDef}
 use Rattle.cpu_table.specs.declared.handlers.OpDef.TheVariants as op
 use Rattle.sync_words.specs.declared.label.StartRefusal.{StartRefusal}
@@ -15,7 +14,7 @@ use Rattle.serving_place.specs.Serving.{Serving, number, seat, token_of}
 use Rattle.serving_place.specs.Operations.{procedure_place}
 use Rattle.serving_place.specs.Setting.{Setting, first_cause}
 use Rattle.serving_place.specs.Due.{Due, Nothing, Saying, Awaiting, Doing, due}
-use Rattle.handler_ops.specs.Course.{Course, Step, by_desk, Desks, Reach, Outside, AtHand, Working, Elsewhere, reach, has_job, is_held, read_of, write_of, read_label, write_label, blank, by_start_rule, reading, writing, checking, waiting, awaiting_job, claiming_job, operation_step, due_step, step_of, need_of}
+use Rattle.handler_ops.specs.Course.{Course, Step, by_desk, Desks, Reach, Outside, AtHand, Working, Elsewhere, reach, has_job, is_held, read_of, write_of, read_label, write_label, blank, by_start_rule, reading, writing, checking, waiting, operation_step, due_step, step_of, need_of}
 use Rattle.handler_ops.specs.NextRow.{desk_row, reading_row, writing_row, start_row, checking_row, waiting_row, operation_row, due_row, row_of}
 use Rattle.handler_ops.specs.Told.{step_as, need_as, read_at_hand, write_at_hand}
 use Rattle.handler_ops.proofs.Dues.{need_is}

@@ -3,7 +3,7 @@ use Rattle.std.proofs.Common.{◌≡◌, ◌≢◌, ◌<◌, ◌≤◌, ℕ, zer
 use Rattle.std.specs.Prelude.{slice_get, slice_set, ◌⊎◌, ◌||◌}
 use Rattle.std.specs.List.{range_with_len}
 use Rattle.std.proofs.lemmas.Bool.{cases_eq}
-use Rattle.std.proofs.lemmas.List.{get_or-set_same, get_or-set_other, length-set, length-replicate, get_or-replicate}
+use Rattle.std.proofs.lemmas.List.{ext_get_or, get_or-set_same, get_or-set_other, length-set, length-replicate, get_or-replicate}
 use Rattle.sync_words.specs.declared.access.Access.{Access}
 use Rattle.sync_words.specs.declared.access.Access.TheVariants as access
 use Rattle.sync_words.specs.declared.access.Applied.{Applied}
@@ -27,7 +27,7 @@ use Rattle.rendezvous_core.proofs.Scheduling.{events_append, world_append, step_
 -- WHO NEED NOT BE ASKED
 
 -- a turn that looks changes no word, and leaves what lies on it
-LooksOnly : Words → Lying → Turn → Type 0
+abbrev LooksOnly : Words → Lying → Turn → Type 0
 LooksOnly words lying (Moves e words' lying' a) = e.access ≡ access.Look → (words' ≡ words) × (lying' ≡ lying)
 LooksOnly words lying (Waits found) = Unit {0}
 LooksOnly words lying Rests = Unit {0}
@@ -53,18 +53,18 @@ module _ (words : Words) (lying : Lying) (me : ℕ) (word : WordId) (x : Access)
 
 wanted_looks : (words : Words) (lying : Lying) (me : ℕ) (word : WordId) (x : Access) (hand : Hand) (a : Actor) → LooksOnly words lying (accesses words lying me word x hand a (applied (read words word) x))
 wanted_looks words lying me word access.Look hand a = λ e. (refl, refl)
-wanted_looks words lying me word (access.Put n) hand a = apart words lying me word (access.Put n) (λ e. absurd cc) a hand _
-wanted_looks words lying me word access.Up hand a = apart words lying me word access.Up (λ e. absurd cc) a hand _
-wanted_looks words lying me word access.Down hand a = apart words lying me word access.Down (λ e. absurd cc) a hand _
-wanted_looks words lying me word access.Lower hand a = apart words lying me word access.Lower (λ e. absurd cc) a hand _
-wanted_looks words lying me word access.Lock hand a = apart words lying me word access.Lock (λ e. absurd cc) a hand _
-wanted_looks words lying me word (access.Claim m n) hand a = apart words lying me word (access.Claim m n) (λ e. absurd cc) a hand _
-wanted_looks words lying me word (access.Await m n) hand a = apart words lying me word (access.Await m n) (λ e. absurd cc) a hand _
-wanted_looks words lying me word (access.Seek n) hand a = apart words lying me word (access.Seek n) (λ e. absurd cc) a hand _
-wanted_looks words lying me word access.Signal hand a = apart words lying me word access.Signal (λ e. absurd cc) a hand _
-wanted_looks words lying me word access.TakeSmi hand a = apart words lying me word access.TakeSmi (λ e. absurd cc) a hand _
-wanted_looks words lying me word access.ClearSmi hand a = apart words lying me word access.ClearSmi (λ e. absurd cc) a hand _
-wanted_looks words lying me word (access.Raise n) hand a = apart words lying me word (access.Raise n) (λ e. absurd cc) a hand _
+wanted_looks words lying me word (access.Put n) hand a = apart words lying me word (access.Put n) (λ e. absurd cc) a hand (applied (read words word) (access.Put n))
+wanted_looks words lying me word access.Up hand a = apart words lying me word access.Up (λ e. absurd cc) a hand (applied (read words word) access.Up)
+wanted_looks words lying me word access.Down hand a = apart words lying me word access.Down (λ e. absurd cc) a hand (applied (read words word) access.Down)
+wanted_looks words lying me word access.Lower hand a = apart words lying me word access.Lower (λ e. absurd cc) a hand (applied (read words word) access.Lower)
+wanted_looks words lying me word access.Lock hand a = apart words lying me word access.Lock (λ e. absurd cc) a hand (applied (read words word) access.Lock)
+wanted_looks words lying me word (access.Claim m n) hand a = apart words lying me word (access.Claim m n) (λ e. absurd cc) a hand (applied (read words word) (access.Claim m n))
+wanted_looks words lying me word (access.Await m n) hand a = apart words lying me word (access.Await m n) (λ e. absurd cc) a hand (applied (read words word) (access.Await m n))
+wanted_looks words lying me word (access.Seek n) hand a = apart words lying me word (access.Seek n) (λ e. absurd cc) a hand (applied (read words word) (access.Seek n))
+wanted_looks words lying me word access.Signal hand a = apart words lying me word access.Signal (λ e. absurd cc) a hand (applied (read words word) access.Signal)
+wanted_looks words lying me word access.TakeSmi hand a = apart words lying me word access.TakeSmi (λ e. absurd cc) a hand (applied (read words word) access.TakeSmi)
+wanted_looks words lying me word access.ClearSmi hand a = apart words lying me word access.ClearSmi (λ e. absurd cc) a hand (applied (read words word) access.ClearSmi)
+wanted_looks words lying me word (access.Raise n) hand a = apart words lying me word (access.Raise n) (λ e. absurd cc) a hand (applied (read words word) (access.Raise n))
 
 turn_looks : (words : Words) (lying : Lying) (me : ℕ) (a : Actor) (w : Want) → LooksOnly words lying (turn_wanting words lying me a w)
 turn_looks words lying me a want.Off = tt
@@ -108,6 +108,18 @@ others_wait w i j e n is looks h = by_actor (slice_get w.actors i) is
     by_actor : (o : Option Actor) → (step_of w i o).0 ≡ stepped.Event e → MakesNoEvent (step (step_of w i o).1 j).0
     by_actor None is = absurd cc
     by_actor (Some a) is = by_turn (turn w.words w.lying i a) (turn_looks w.words w.lying i a (want_of a)) is
+
+-- one flag more is set
+pub set_more : (xs : List Bool) (i : ℕ) → i < length xs → ((k : ℕ) → k < i → get_or xs k true ≡ true) → (k : ℕ) → k < i + 1 → get_or (slice_set xs i true) k true ≡ true
+set_more xs i within done k below =
+    ⊎_elim
+    (λ (same : k ≡ i). subst (λ (x : ℕ). get_or (slice_set xs i true) x true ≡ true) (sym same) (get_or-set_same xs i true true within))
+    (λ (apart : k ≢ i). get_or-set_other xs i k true true apart ∙ done k (omega (arith, below, apart)))
+    (cases_eq k i)
+
+pub all_set : (xs : List Bool) (n : ℕ) → length xs ≡ n → ((k : ℕ) → k < n → get_or xs k true ≡ true) → xs ≡ replicate n true
+all_set xs n size done =
+    ext_get_or true xs (replicate n true) (size ∙ sym (length-replicate {A = Bool} n true)) (λ k below. done k (omega (arith, below, size)) ∙ sym (get_or-replicate {A = Bool} n k true true (omega (arith, below, size))))
 
 all_awake : (n : ℕ) (w : World) → AreAsleep (replicate n true) w
 all_awake n w = λ j below asleep. let flag = get_or-replicate n j true true (omega (arith, below, length-replicate {A = Bool} n true)) in absurd (subst (λ (b : Bool). b ≡ true → ⊥) (sym asleep) (λ z. absurd cc) flag)
@@ -179,19 +191,33 @@ asleep_now awake w i below flag asleep =
 
 -- A ROUND
 
-range_more : (from k : ℕ) → range_with_len from (k + 1) ≡ range_with_len from k ++ (from + k) ∷ []
-range_more from zero = let e : from ≡ from + 0 = omega arith in ap (λ (x : ℕ). x ∷ []) e
-range_more from (suc k) = let e : (from + 1) + k ≡ from + suc k = omega arith in ap (λ (xs : List ℕ). from ∷ xs) (range_more (from + 1) k ∙ ap (λ (x : ℕ). range_with_len (from + 1) k ++ x ∷ []) e)
+range_next : (from k : ℕ) → range_with_len from (suc k) ≡ range_with_len from k ++ (from + k) ∷ []
+range_next from zero = let e : from ≡ from + 0 = omega arith in ap (λ (x : ℕ). x ∷ []) e
+range_next from (suc k) =
+    let e : (from + 1) + k ≡ from + suc k = omega arith in
+    ap (λ (xs : List ℕ). from ∷ xs) (range_next (from + 1) k ∙ ap (λ (x : ℕ). range_with_len (from + 1) k ++ x ∷ []) e)
+
+range_more : (k : ℕ) → range_with_len 0 (k + 1) ≡ range_with_len 0 k ++ k ∷ []
+range_more k =
+    let up : k + 1 ≡ suc k = omega arith in
+    let at : 0 + k ≡ k = omega arith in
+    ap (range_with_len 0) up ∙ range_next 0 k ∙ ap (λ (x : ℕ). range_with_len 0 k ++ x ∷ []) at
 
 range_two : (from j k : ℕ) → range_with_len from (j + k) ≡ range_with_len from j ++ range_with_len (from + j) k
-range_two from zero k = let e : from ≡ from + 0 = omega arith in ap (λ (x : ℕ). range_with_len x k) e
-range_two from (suc j) k = let e : (from + 1) + j ≡ from + suc j = omega arith in ap (λ (xs : List ℕ). from ∷ xs) (range_two (from + 1) j k ∙ ap (λ (x : ℕ). range_with_len (from + 1) j ++ range_with_len x k) e)
+range_two from zero k =
+    let at : 0 + k ≡ k = omega arith in
+    let e : from ≡ from + 0 = omega arith in
+    ap (range_with_len from) at ∙ ap (λ (x : ℕ). range_with_len x k) e
+range_two from (suc j) k =
+    let up : suc j + k ≡ suc (j + k) = omega arith in
+    let e : (from + 1) + j ≡ from + suc j = omega arith in
+    ap (range_with_len from) up ∙ ap (λ (xs : List ℕ). from ∷ xs) (range_two (from + 1) j k ∙ ap (λ (x : ℕ). range_with_len (from + 1) j ++ range_with_len x k) e)
 
 pub round_world : (w : World) (k : ℕ) → world_after w (range_with_len 0 (k + 1)) ≡ (step (world_after w (range_with_len 0 k)) k).1
-round_world w k = ap (world_after w) (range_more 0 k) ∙ world_append w (range_with_len 0 k) ((0 + k) ∷ [])
+round_world w k = ap (world_after w) (range_more k) ∙ world_append w (range_with_len 0 k) (k ∷ [])
 
 pub round_events : (w : World) (k : ℕ) → events_from w (range_with_len 0 (k + 1)) ≡ events_from w (range_with_len 0 k) ++ with_event (step (world_after w (range_with_len 0 k)) k).0 []
-round_events w k = ap (events_from w) (range_more 0 k) ∙ events_append w (range_with_len 0 k) ((0 + k) ∷ [])
+round_events w k = ap (events_from w) (range_more k) ∙ events_append w (range_with_len 0 k) (k ∷ [])
 
 event_any : (s : Stepped) → is_event s ≡ makes_any (with_event s [])
 event_any (stepped.Event e) = refl
@@ -254,7 +280,9 @@ all_off r s goes played size none =
     (λ (on : CanGoOn (world_after r.world (rounds r.processors played.count))).
     let more : CanGoOn s.world = subst CanGoOn (sym played.world) on in
     let below = more.1 in
-    absurd (not_both (step s.world more.0).0 more.2 (none_makes s.world 0 (s.processors + 1) none more.0 (omega (arith, below, size)))))
+    let at : 0 + more.0 ≡ more.0 = omega arith in
+    let rests = subst (λ (x : ℕ). MakesNoEvent (step s.world x).0) at (none_makes s.world 0 (s.processors + 1) none more.0 (omega (arith, below, size))) in
+    absurd (not_both (step s.world more.0).0 more.2 rests))
     (goes (rounds r.processors played.count))
 
 -- no round

@@ -1,12 +1,4 @@
-pub mod Stages
 pub mod Simulations
-pub mod Holds
 pub mod Places
-pub mod Fits
 pub mod Writes
-pub mod Looks
-pub mod Servings
-pub mod Visits
-pub mod Heralds
-pub mod Runs
 pub mod Resumes

@@ -1,8 +1,7 @@
-// Laws of whole schedules: what the protocol says is a run of the rendezvous machine. They do nothing when they run.
+// What holds of every run of the rendezvous machine and of every relation that steps keep: the images by the labels, and the
+// induction over a schedule. Nothing here does anything when it runs.
 #![tactic(auto)]
 
-mod one;
 mod resumed;
 
-pub use one::one_processor_laws;
 pub use resumed::resumed_images;

@@ -1,5 +1,5 @@
 -- Every schedule of every platform is a run of the rendezvous machine.
-use Rattle.std.proofs.Common.{ℕ, ◌≡◌, ◌<◌, ◌≤◌, List, length, true, All}
+use Rattle.std.proofs.Common.{ℕ, ◌≡◌, ◌<◌, ◌≤◌, List, length, true}
 use Rattle.std.specs.Prelude.{nat_le}
 use Rattle.std.specs.List.{list_all}
 use Rattle.std.proofs.lemmas.Bool.{and_parts, leb-true}
@@ -12,7 +12,7 @@ use Rattle.cpu_table.specs.Ranges.{is_between, policy_fits, wave_fits, waves_fit
 use Rattle.rendezvous_core.specs.Starts.{AreImagesOf}
 use Rattle.rendezvous_machine.specs.Machines.{no_image}
 use Rattle.schedule_laws.proofs.Invariant.{IsPlatform}
-use Rattle.schedule_laws.proofs.Schedules.{IsPlatformWith, IsReplayed, replayed}
+use Rattle.schedule_laws.proofs.Schedules.{IsReplayed, replayed}
 use Rattle.schedule_laws.proofs.Turns.{all_turns}
 
 -- what is asked of a platform follows from the ranges of its parts

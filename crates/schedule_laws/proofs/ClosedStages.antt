@@ -1,7 +1,7 @@
 -- What a later stage of a session makes of the facts of each processor, and of the sums, from the close on.
-use Rattle.std.proofs.Common.{ℕ, ◌+◌, ◌-◌, ◌*◌, ◌≡◌, ◌≢◌, ◌<◌, ◌≤◌, arith, Option, None, get_or}
+use Rattle.std.proofs.Common.{ℕ, ◌+◌, ◌-◌, ◌*◌, ◌≡◌, ◌≢◌, ◌<◌, ◌≤◌, arith}
 use Rattle.cpu_table.specs.Data.{SetupData}
-use Rattle.schedule_laws.proofs.Stations.{here_of, made}
+use Rattle.schedule_laws.proofs.Stations.{made}
 use Rattle.schedule_laws.proofs.Invariant.{Context, View, IsCpu, IsTeam, IsPeer, IsRunOf, IsTotals}
 use Rattle.schedule_laws.proofs.LeadFrames.{at_stage}
 

@@ -1,5 +1,5 @@
 -- The BSP closes the session: it says so first.
-use Rattle.std.proofs.Common.{ℕ, ◌+◌, ◌-◌, ◌*◌, ◌≡◌, ◌≢◌, ◌<◌, ◌≤◌, arith, Bool, refl, ap}
+use Rattle.std.proofs.Common.{ℕ, ◌+◌, ◌-◌, ◌*◌, ◌≡◌, ◌≢◌, ◌<◌, ◌≤◌, arith, refl, ap}
 use Rattle.cpu_table.specs.Data.{SetupData}
 use Rattle.rendezvous_core.specs.Worlds.{Words}
 use Rattle.rendezvous_machine.specs.Machines.{Machine}

@@ -1,7 +1,7 @@
 -- The BSP of a closed session waits for the reports, and takes the desks that it lacks; then it serves, or ends the handlers' time.
 use Rattle.std.proofs.Common.{ℕ, ◌+◌, ◌-◌, ◌*◌, ◌≡◌, ◌≢◌, ◌<◌, ◌≤◌, ◌⊎◌, inl, inr, arith, Bool, true, false, List, length, get_or, slice_set, Option, Some, None, refl, sym, subst, ap, ⊎_elim, ◌∙◌}
 use Rattle.std.specs.Prelude.{is_some, not, ◌==◌, ◌&&◌, if◌then◌else◌}
-use Rattle.std.proofs.lemmas.Bool.{cases_eq, cases_Bool, cases_lt, ne_eqb, eq-eqb}
+use Rattle.std.proofs.lemmas.Bool.{cases_eq, ne_eqb, eq-eqb}
 use Rattle.std.proofs.lemmas.List.{get_or-set_other, get_or-set_same, length-set}
 use Rattle.cpu_table.specs.Data.{SetupData}
 use Rattle.cpu_table.specs.declared.setup.Mode.{Mode}
@@ -28,7 +28,7 @@ use Rattle.schedule_laws.proofs.Invariant.{Context, View, IsSelf, IsTeam, IsPeer
 use Rattle.schedule_laws.proofs.ImageKinds.{is_same_kind}
 use Rattle.schedule_laws.proofs.Sums.{sum_below-same}
 use Rattle.schedule_laws.proofs.Frames.{mode_le, stays}
-use Rattle.schedule_laws.proofs.LeadFrames.{at_stage, IsHolding, Reached, lead_kept}
+use Rattle.schedule_laws.proofs.LeadFrames.{at_stage, Reached, lead_kept}
 use Rattle.schedule_laws.proofs.SessionFrames.{bsp_says, no_aim, rechaired, resting_job, begun_chair, begun_course, starting_course, is_beginning, plain, turns}
 use Rattle.schedule_laws.proofs.Locks.{closed_machine, lock_ready, locked_scene}
 use Rattle.schedule_laws.proofs.Served.{is_served}

@@ -1,5 +1,5 @@
 -- A processor becomes the BSP, or finds that another one is.
-use Rattle.std.proofs.Common.{ℕ, ◌+◌, ◌-◌, ◌*◌, ◌≡◌, ◌≢◌, ◌<◌, ◌≤◌, arith, Bool, true, false, List, length, get_or, slice_set, Option, Some, None, refl, sym, subst, ap, ⊎_elim, ◌∙◌}
+use Rattle.std.proofs.Common.{ℕ, ◌+◌, ◌-◌, ◌*◌, ◌≡◌, ◌≢◌, ◌<◌, ◌≤◌, arith, true, length, get_or, slice_set, Option, Some, None, refl, sym, subst, ap, ⊎_elim, ◌∙◌}
 use Rattle.std.specs.Prelude.{◌==◌, if◌then◌else◌}
 use Rattle.std.proofs.lemmas.Bool.{cases_eq, ne_eqb, eq-eqb, ltb-true}
 use Rattle.std.proofs.lemmas.List.{get_or-set_other, length-set}
@@ -11,12 +11,12 @@ use Rattle.handler_ops.specs.declared.desk.Desk.{Desk}
 use Rattle.handler_ops.specs.Sessions.{Session as Chair}
 use Rattle.cpu_program.specs.declared.cargo.Cargo.{Cargo}
 use Rattle.cpu_program.specs.declared.cargo.Cargo.TheVariants as cargo
-use Rattle.rendezvous_core.specs.Worlds.{Words, Lying, bsp_at_first}
+use Rattle.rendezvous_core.specs.Worlds.{bsp_at_first}
 use Rattle.rendezvous_machine.specs.Machines.{Machine, member}
 use Rattle.rendezvous_machine.specs.Effects.{opened}
 use Rattle.rendezvous_machine.specs.Platforms.{MayLead}
 use Rattle.schedule_laws.proofs.Scenes.{Scene, Seat, Position, ClaimingChair, AskingForChair, AwaitingInside, Leading as LeadingAt, MarkingInside, seat, no_seat}
-use Rattle.schedule_laws.proofs.Stations.{Station, station_of, Leading, is_bsp, member_of, here_of, walk_of, made, low, made_zero}
+use Rattle.schedule_laws.proofs.Stations.{station_of, Leading, member_of, walk_of, made, low, made_zero}
 use Rattle.schedule_laws.proofs.Stations as stations
 use Rattle.schedule_laws.proofs.Sums.{sum_below-same, sum_below-zero}
 use Rattle.schedule_laws.proofs.Invariant.{Context, View, IsCpu, IsSelf, IsTeam, IsPeer, IsRunOf, IsIdle, IsTotals, IsWords, IsSession, IsAt, Holds, KeptAt, chair_home, chair_lying, desk_kept, globe, locked, members_in, mode_of, raised_in, team_in, view, view_at}

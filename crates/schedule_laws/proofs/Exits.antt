@@ -2,7 +2,6 @@
 -- waits until they have left, and gives the chair back.
 use Rattle.std.proofs.Common.{ℕ, zero, suc, ◌+◌, ◌-◌, ◌*◌, ◌≡◌, ◌≢◌, ◌<◌, ◌≤◌, arith, Bool, true, false, List, [], ◌∷◌, get_or, slice_set, Option, Some, None, refl, ap, ⊎_elim, ◌∙◌}
 use Rattle.std.specs.Prelude.{is_some, map, option_map}
-use Rattle.std.specs.List.{range_with_len}
 use Rattle.std.proofs.lemmas.Bool.{cases_eq, ne_eqb, eq-eqb}
 use Rattle.std.proofs.lemmas.List.FromFn.{get_or-map-range_with_len}
 use Rattle.cpu_table.specs.Data.{SetupData}

@@ -1,5 +1,5 @@
 -- What stays where an AP moves.
-use Rattle.std.proofs.Common.{ℕ, ◌+◌, ◌-◌, ◌*◌, ◌%◌, ◌≡◌, ◌≢◌, ◌<◌, ◌≤◌, arith, Bool, true, false, List, length, get_or, slice_set, Option, Some, None, refl, sym, ap, subst, ⊎_elim, ◌∙◌}
+use Rattle.std.proofs.Common.{ℕ, ◌+◌, ◌-◌, ◌*◌, ◌%◌, ◌≡◌, ◌≢◌, ◌<◌, ◌≤◌, arith, Bool, true, false, List, length, get_or, slice_set, Option, None, refl, sym, ap, subst, ⊎_elim, ◌∙◌}
 use Rattle.std.proofs.lemmas.Bool.{cases_eq}
 use Rattle.std.proofs.lemmas.List.{get_or-set_other, get_or-set_same, length-set}
 use Rattle.cpu_table.specs.Data.{SetupData}
@@ -8,13 +8,13 @@ use Rattle.handler_ops.specs.declared.desk.Job.{Job}
 use Rattle.cpu_program.specs.declared.cargo.Cargo.{Cargo}
 use Rattle.cpu_program.specs.Actors.{Actor}
 use Rattle.cpu_program.specs.Processors.{is_relaxed}
-use Rattle.rendezvous_core.specs.Worlds.{World, Words, Lying}
-use Rattle.rendezvous_machine.specs.Machines.{Machine, Member, Session, member, nobody}
+use Rattle.rendezvous_core.specs.Worlds.{Words, Lying}
+use Rattle.rendezvous_machine.specs.Machines.{Machine, Member, member, nobody}
 use Rattle.rendezvous_machine.specs.Effects.{with_member}
 use Rattle.schedule_laws.proofs.Scenes.{Scene, Seat, Position, seat, no_seat, processor_of, actors_of, world_of, seat_put}
-use Rattle.schedule_laws.proofs.Stations.{Station, station_of, bit, work_of, is_bsp, member_of, made, made-le, member_of-le}
+use Rattle.schedule_laws.proofs.Stations.{station_of, bit, is_bsp, member_of, made, made-le, member_of-le}
 use Rattle.schedule_laws.proofs.Sums.{sum_below-change, sum_below-bound}
-use Rattle.schedule_laws.proofs.Invariant.{Context, IsPlatform, IsSession, IsAim, View, IsCpu, IsTotals, IsWords, IsChipset, IsCourse, IsJobOf, IsSized, sizes, IsReady, Holds, IsFine, IsAt, IsRunOf, IsIdle, IsSignal, IsBusy, globe, mode_of, view, view_at, view_of, seat_view, locked, members_in, team_in, raised_in}
+use Rattle.schedule_laws.proofs.Invariant.{Context, IsPlatform, IsSession, IsAim, View, IsCpu, IsTotals, IsWords, IsChipset, IsCourse, IsJobOf, IsSized, sizes, IsReady, Holds, IsFine, IsAt, IsRunOf, IsIdle, IsSignal, IsBusy, globe, mode_of, view, view_at, locked, members_in, team_in, raised_in}
 
 -- THE WORLD AFTER A TURN
 

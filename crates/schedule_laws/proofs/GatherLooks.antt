@@ -1,6 +1,6 @@
 -- The BSP's looks for the others to come: two rounds, between them an interrupt to each that hasn't reported, and then the close begins.
 use Rattle.std.proofs.Common.{ℕ, ◌+◌, ◌-◌, ◌*◌, ◌%◌, ◌≡◌, ◌≢◌, ◌<◌, ◌≤◌, inl, inr, arith, Bool, true, false, List, length, get_or, slice_set, Option, Some, None, refl, sym, subst, ap, ⊎_elim, ◌∙◌}
-use Rattle.std.specs.Prelude.{IsSomeAnd, is_some, option_map, not, ◌||◌, ◌==◌, nat_le, if◌then◌else◌}
+use Rattle.std.specs.Prelude.{IsSomeAnd, option_map, ◌||◌, ◌==◌, nat_le, if◌then◌else◌}
 use Rattle.std.proofs.lemmas.Bool.{cases_eq, cases_Bool, ne_eqb, eq-eqb, leb-true, leb-false}
 use Rattle.std.proofs.lemmas.List.{length-set}
 use Rattle.cpu_table.specs.Data.{SetupData}
@@ -9,17 +9,15 @@ use Rattle.sync_words.specs.declared.row.Row.TheVariants as row
 use Rattle.arrival.specs.Gather as gather
 use Rattle.arrival.specs.Gather.{is_other}
 use Rattle.arrival.specs.Rounds.{is_last_look}
-use Rattle.handler_ops.specs.declared.desk.Desk.{Desk}
 use Rattle.cpu_program.specs.Actors.{OfProcessor}
 use Rattle.cpu_program.specs.Processors.{is_relaxed, desks_held, left_to}
-use Rattle.rendezvous_core.specs.Worlds.{Words}
 use Rattle.rendezvous_machine.specs.Machines.{Machine, Session, member, count_of, HasWaited}
 use Rattle.rendezvous_machine.specs.Effects.{made_ready, has_expired, with_session}
 use Rattle.schedule_laws.proofs.Scenes.{Scene, Seat, Lead, GatheringFirst, FindingMissing, SignallingMissing, GatheringSecond, MarkingInsync, Leading as LeadingAt, seat, processor_at, processor_of, actors_of, gathering_at}
 use Rattle.schedule_laws.proofs.Stations.{Leading, bit, in_of, station_of}
-use Rattle.schedule_laws.proofs.Invariant.{Context, IsWords, IsSession, IsReady, IsAim, IsLead, IsSignal, Holds, IsFine, KeptAt, begins_from, mode_of, globe, view}
+use Rattle.schedule_laws.proofs.Invariant.{Context, IsWords, IsSession, IsReady, IsAim, IsLead, IsSignal, Holds, IsFine, KeptAt, mode_of, globe}
 use Rattle.schedule_laws.proofs.Frames.{signal_set}
-use Rattle.schedule_laws.proofs.LeadFrames.{at_stage, IsHolding, Reached, lead_kept}
+use Rattle.schedule_laws.proofs.LeadFrames.{at_stage, Reached, lead_kept}
 use Rattle.schedule_laws.proofs.SessionFrames.{bsp_says, session_map, open_listed, resting_course, no_aim, plain, turns}
 use Rattle.schedule_laws.proofs.Facts.{some_and}
 use Rattle.schedule_laws.proofs.Loops.{Found, found_next}

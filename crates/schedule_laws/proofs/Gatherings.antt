@@ -1,8 +1,6 @@
 -- The BSP of a new session: it says that it is at work, takes the wave, and gathers the others in the traditional mode.
-use Rattle.std.proofs.Common.{ℕ, ◌+◌, ◌-◌, ◌*◌, ◌%◌, ◌≡◌, ◌≢◌, ◌<◌, ◌≤◌, arith, Bool, true, false, List, length, get_or, slice_set, Option, Some, None, refl, sym, subst, ap, ⊎_elim, ◌∙◌}
-use Rattle.std.specs.Prelude.{IsSome, IsSomeAnd, option_map, ◌||◌, ◌==◌, nat_le, if◌then◌else◌}
-use Rattle.std.proofs.lemmas.Bool.{cases_eq, cases_Bool, ne_eqb, eq-eqb}
-use Rattle.std.proofs.lemmas.List.{length-set}
+use Rattle.std.proofs.Common.{ℕ, ◌+◌, ◌-◌, ◌*◌, ◌%◌, ◌≡◌, ◌≢◌, ◌<◌, ◌≤◌, arith, false, slice_set, Option, Some, None, refl, sym, subst, ap, ⊎_elim, ◌∙◌}
+use Rattle.std.specs.Prelude.{IsSome, option_map, ◌||◌, ◌==◌, if◌then◌else◌}
 use Rattle.cpu_table.specs.Data.{SetupData}
 use Rattle.cpu_table.specs.declared.setup.Mode.{Mode}
 use Rattle.cpu_table.specs.declared.setup.Mode.TheVariants.{Traditional, Relaxed}
@@ -13,9 +11,9 @@ use Rattle.rendezvous_core.specs.Worlds.{Words}
 use Rattle.rendezvous_machine.specs.Machines.{Machine, Session, member}
 use Rattle.rendezvous_machine.specs.Effects.{serves, gathers, with_session}
 use Rattle.schedule_laws.proofs.Scenes.{Scene, Seat, MarkingInside, TakingSource, LookingAtExcept, GatheringFirst, BeginningToServe, Leading as LeadingAt, seat, processor_at, actors_of}
-use Rattle.schedule_laws.proofs.Stations.{Leading, bit, station_of}
+use Rattle.schedule_laws.proofs.Stations.{bit, station_of}
 use Rattle.schedule_laws.proofs.Leads.{begins_at}
-use Rattle.schedule_laws.proofs.Invariant.{Context, IsWords, IsSession, IsReady, IsCourse, IsLead, Holds, IsFine, KeptAt, begins_from, serves_from, mode_of, globe, view}
+use Rattle.schedule_laws.proofs.Invariant.{Context, IsWords, IsSession, IsReady, IsCourse, IsLead, Holds, IsFine, KeptAt, begins_from, mode_of, globe}
 use Rattle.schedule_laws.proofs.Frames.{mode_le}
 use Rattle.schedule_laws.proofs.LeadFrames.{at_stage, IsHolding, Reached, lead_kept}
 use Rattle.schedule_laws.proofs.SessionFrames.{bsp_says, session_map, open_ready, words_open, resting_course, starting_course, no_aim, rechaired, resting_job, begun_chair, begun_course, is_beginning, plain, turns}

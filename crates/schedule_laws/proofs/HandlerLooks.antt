@@ -20,7 +20,7 @@ use Rattle.handler_ops.specs.Course.{Course, Desks, Move, Speaks, Step, is_held,
 use Rattle.handler_ops.specs.Conditions.{CameFor}
 use Rattle.handler_ops.specs.NextRow.{row_of}
 use Rattle.handler_ops.specs.Sessions.{Session as Chair}
-use Rattle.handler_ops.specs.Told.{step_as, need_as, handed_as}
+use Rattle.handler_ops.specs.Told.{step_as, handed_as}
 use Rattle.handler_ops.proofs.Rows.{step_leads}
 use Rattle.handler_ops.proofs.RowSteps.{step_of_row}
 use Rattle.cpu_program.specs.Actors.{Processor, OfProcessor}

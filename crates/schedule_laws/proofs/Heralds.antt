@@ -1,21 +1,20 @@
 -- The steps of the chipset.
 use Rattle.std.proofs.Common.{ℕ, ◌+◌, ◌-◌, ◌*◌, ◌%◌, ◌≡◌, ◌≢◌, ◌<◌, ◌≤◌, arith, Bool, true, false, List, length, get_or, slice_set, Option, Some, None, refl, sym, ap, ⊎_elim, ◌∙◌}
-use Rattle.std.specs.Prelude.{nat_le, nat_lt, if◌then◌else◌, slice_index_or}
+use Rattle.std.specs.Prelude.{nat_lt, if◌then◌else◌, slice_index_or}
 use Rattle.std.proofs.lemmas.Bool.{cases_eq, cases_lt, eq-eqb, ne_eqb, lt-ltb, le-ltb}
 use Rattle.std.proofs.lemmas.List.{length-set}
 use Rattle.cpu_table.specs.Data.{SetupData}
 use Rattle.cpu_table.specs.declared.waves.Arrival.{Arrival}
 use Rattle.cpu_table.specs.declared.waves.Arrival.TheVariants.{Prompt, Delayed, Blocked, Absent}
 use Rattle.cpu_table.specs.Waves.{arrivals_of, blocked_in}
-use Rattle.sync_words.specs.declared.row.Row.{Row}
 use Rattle.sync_words.specs.declared.row.Row.TheVariants as row
 use Rattle.handler_ops.specs.declared.desk.Desk.{Desk}
-use Rattle.cpu_program.specs.Actors.{Actor, Chipset, OfChipset}
+use Rattle.cpu_program.specs.Actors.{Actor, OfChipset}
 use Rattle.cpu_program.specs.Chipsets.{signal_for, signal_in, is_watched}
-use Rattle.rendezvous_core.specs.Worlds.{World, Words, Lying}
+use Rattle.rendezvous_core.specs.Worlds.{Words, Lying}
 use Rattle.rendezvous_machine.specs.Machines.{Machine, member}
-use Rattle.schedule_laws.proofs.Scenes.{Scene, Watch, Herald, AnnouncingBlocked, AnnouncingWave, Raising, Watching, AwaitingServed, TurningOff, Silenced, row_at, chipset_at, chipset_of, actors_of, world_of, watch_set_from}
-use Rattle.schedule_laws.proofs.Invariant.{Context, View, IsSelf, IsCpu, IsSignal, IsWords, IsChipset, IsSized, Holds, IsFine, stage_of, desk_kept, view, KeptHerald}
+use Rattle.schedule_laws.proofs.Scenes.{Scene, Watch, Herald, AnnouncingBlocked, AnnouncingWave, Raising, Watching, AwaitingServed, TurningOff, Silenced, chipset_at, chipset_of, actors_of, watch_set_from}
+use Rattle.schedule_laws.proofs.Invariant.{Context, View, IsSelf, IsSignal, IsChipset, Holds, IsFine, stage_of, desk_kept, view, KeptHerald}
 use Rattle.schedule_laws.proofs.Frames.{stays, signal_set}
 
 -- the chipset goes on

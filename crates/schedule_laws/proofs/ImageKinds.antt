@@ -24,7 +24,7 @@ use Rattle.cpu_table.specs.declared.handlers.Act.{Act}
 use Rattle.cpu_table.specs.declared.handlers.Act.TheVariants.{Get, Put}
 use Rattle.cpu_table.specs.declared.handlers.ProcedureDef.{ProcedureDef}
 use Rattle.handler_ops.specs.declared.desk.Job.{Job}
-use Rattle.handler_ops.specs.Course.{low_bytes, write_of}
+use Rattle.handler_ops.specs.Course.{low_bytes}
 use Rattle.handler_ops.specs.Procedures.{act_on, procedure_on}
 use Rattle.cpu_program.specs.Hands.{is_kind}
 use Rattle.rendezvous_machine.specs.Effects.{image_run}

@@ -1,6 +1,6 @@
 -- What holds of the world and the machine between any two steps: of the words and their sums, of the session by how far its BSP is, and
 -- of each processor by where it stands.
-use Rattle.std.proofs.Common.{ℕ, zero, suc, ◌+◌, ◌-◌, ◌*◌, ◌%◌, ◌≡◌, ◌≢◌, ◌<◌, ◌≤◌, Bool, true, false, eqb, List, [], ◌∷◌, length, get_or, Option, Some, None}
+use Rattle.std.proofs.Common.{ℕ, zero, suc, ◌+◌, ◌-◌, ◌*◌, ◌%◌, ◌≡◌, ◌≢◌, ◌<◌, ◌≤◌, Bool, true, false, List, [], ◌∷◌, length, get_or, Option, Some, None}
 use Rattle.std.specs.Prelude.{◌==◌, if◌then◌else◌, is_some, IsSomeAnd}
 use Rattle.smm_base.specs.declared.kinds.Policy.{Policy}
 use Rattle.smm_base.specs.declared.kinds.Policy.TheVariants.{Elected, Fixed}
@@ -16,14 +16,12 @@ use Rattle.handler_ops.specs.declared.desk.Desk.{Desk}
 use Rattle.handler_ops.specs.declared.desk.Job.{Job}
 use Rattle.handler_ops.specs.declared.row.Row.TheVariants as told
 use Rattle.serving_place.specs.declared.seat.Seat.{Seat as JobSeat}
-use Rattle.serving_place.specs.Serving.{Serving, HasOpen, run_at}
+use Rattle.serving_place.specs.Serving.{HasOpen, run_at}
 use Rattle.serving_place.specs.Serving as serving
-use Rattle.serving_place.specs.Forms.{Event}
 use Rattle.serving_place.specs.Beginning.{at_begin, program_of, walks_of}
 use Rattle.serving_place.specs.Places.{Place, at_first, HasMore, IsOver}
 use Rattle.serving_place.specs.Stands.{Leads}
-use Rattle.serving_place.specs.Setting.{Setting}
-use Rattle.handler_ops.specs.Course.{Course, has_job, is_held}
+use Rattle.handler_ops.specs.Course.{has_job, is_held}
 use Rattle.handler_ops.specs.Conditions.{IsSound, beginning}
 use Rattle.handler_ops.specs.NextRow.{row_of}
 use Rattle.handler_ops.specs.Told.{handed_as}
@@ -31,17 +29,17 @@ use Rattle.handler_ops.specs.Sessions.{Session as Chair}
 use Rattle.cpu_program.specs.declared.cargo.Cargo.{Cargo}
 use Rattle.cpu_program.specs.declared.cargo.Cargo.TheVariants as cargo
 use Rattle.cpu_program.specs.Processors.{is_relaxed}
-use Rattle.rendezvous_core.specs.Worlds.{World, bsp_at_first, step, turn, turned}
+use Rattle.rendezvous_core.specs.Worlds.{World, bsp_at_first, turn, turned}
 use Rattle.rendezvous_core.specs.declared.stepped.Stepped.{Stepped}
 use Rattle.rendezvous_machine.specs.declared.phase.Phase.{Phase}
 use Rattle.rendezvous_machine.specs.Machines.{Machine, Member, Session, HasWaited, member}
 use Rattle.rendezvous_machine.specs.Platforms.{MayLead}
 use Rattle.rendezvous_machine.specs.Services.{setting}
 use Rattle.rendezvous_laws.proofs.Simulations as simulation
-use Rattle.schedule_laws.proofs.Scenes.{Scene, Seat, Watch, Herald, AnnouncingBlocked, AnnouncingWave, Raising, Watching, AwaitingServed, TurningOff, Silenced, Lead, AtHandlers, Position, Leading as LeadingAt, seat, processor_at, processor_of, chipset_at, world_of}
+use Rattle.schedule_laws.proofs.Scenes.{Scene, Seat, Watch, Herald, AnnouncingBlocked, AnnouncingWave, Raising, Watching, AwaitingServed, TurningOff, Silenced, Lead, AtHandlers, Position, Leading as LeadingAt, seat, processor_at, chipset_at, world_of}
 use Rattle.cpu_program.specs.Actors.{OfProcessor, OfChipset}
 use Rattle.schedule_laws.proofs.Stations.{Station, Leading, station_of, bit, work_of, is_bsp, walk_of, phase_of, member_of, here_of, out_of, job_of, in_of, waits_of, made, low}
-use Rattle.schedule_laws.proofs.Leads.{stage_in, next_of, is_traditional, part_of, lists_of}
+use Rattle.schedule_laws.proofs.Leads.{stage_in, next_of, is_traditional, part_of}
 use Rattle.schedule_laws.proofs.Sums.{sum_below}
 use Rattle.schedule_laws.proofs.HandlerFits.{PlaceFits}
 

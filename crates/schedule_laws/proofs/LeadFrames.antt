@@ -1,15 +1,15 @@
 -- What stays where the BSP moves, and the session with it.
-use Rattle.std.proofs.Common.{ℕ, zero, suc, ◌+◌, ◌-◌, ◌*◌, ◌≡◌, ◌≢◌, ◌<◌, ◌≤◌, arith, Bool, true, false, List, length, get_or, slice_set, Option, Some, None, refl, sym, ap, subst, ⊎_elim, ◌∙◌}
-use Rattle.std.proofs.lemmas.Bool.{cases_eq, cases_lt}
+use Rattle.std.proofs.Common.{ℕ, ◌+◌, ◌-◌, ◌*◌, ◌≡◌, ◌≢◌, ◌<◌, ◌≤◌, arith, false, length, get_or, slice_set, Some, None, refl, sym, ap, subst, ⊎_elim, ◌∙◌}
+use Rattle.std.proofs.lemmas.Bool.{cases_eq}
 use Rattle.std.proofs.lemmas.List.{get_or-set_other, get_or-set_same, length-set}
 use Rattle.cpu_table.specs.Data.{SetupData}
 use Rattle.cpu_program.specs.Processors.{is_relaxed}
 use Rattle.rendezvous_machine.specs.Machines.{Machine, member}
 use Rattle.schedule_laws.proofs.Scenes.{Scene, Seat, Lead, MarkingInside, Position, Leading as LeadingAt, seat, no_seat}
-use Rattle.schedule_laws.proofs.Stations.{Station, Leading, station_of, bit, is_bsp, member_of, made}
+use Rattle.schedule_laws.proofs.Stations.{Station, Leading, station_of, member_of, made}
 use Rattle.schedule_laws.proofs.Leads.{stage_in, stage_some, next_of, is_traditional, part_of}
 use Rattle.schedule_laws.proofs.Sums.{sum_below, sum_below-same, sum_below-two_gaps, sum_below-scale}
-use Rattle.schedule_laws.proofs.Invariant.{Context, View, SeatView, IsCpu, IsTotals, IsReady, Holds, IsAim, IsLead, IsAt, IsRunOf, IsIdle, IsBeginning, IsServing, IsCollecting, chair_home, held_at, seat_view, view, view_at, view_of, members_in, team_in, raised_in, KeptAt}
+use Rattle.schedule_laws.proofs.Invariant.{Context, View, SeatView, IsCpu, IsTotals, IsReady, Holds, IsAim, IsLead, IsAt, IsRunOf, IsIdle, IsBeginning, IsServing, IsCollecting, chair_home, held_at, seat_view, view, view_of, members_in, team_in, raised_in, KeptAt}
 use Rattle.schedule_laws.proofs.Frames.{own_at}
 
 -- the context at another stage, with this number in its loop

@@ -1,16 +1,14 @@
 -- The counter is locked, and with it the session is closed: its members are the closed set.
-use Rattle.std.proofs.Common.{ℕ, zero, suc, ◌+◌, ◌-◌, ◌*◌, ◌≡◌, ◌≢◌, ◌<◌, ◌≤◌, ◌⊎◌, arith, Bool, List, [], ◌∷◌, length, get_or, map, Option, Some, None, refl, sym, ap, subst, ⊎_elim, ◌∙◌}
-use Rattle.std.specs.Prelude.{option_map}
+use Rattle.std.proofs.Common.{ℕ, zero, suc, ◌+◌, ◌-◌, ◌*◌, ◌≡◌, ◌≢◌, ◌<◌, ◌≤◌, ◌⊎◌, arith, List, [], ◌∷◌, get_or, map, Option, None, refl, sym, ap, subst, ⊎_elim, ◌∙◌}
 use Rattle.std.proofs.lemmas.List.{length-map}
 use Rattle.cpu_table.specs.Data.{SetupData}
 use Rattle.handler_ops.specs.declared.desk.Desk.{Desk}
-use Rattle.handler_ops.specs.declared.desk.Job.{Job}
-use Rattle.rendezvous_machine.specs.Machines.{Machine, Member, Session, member, nobody, is_counted, is_counted_phase}
+use Rattle.rendezvous_machine.specs.Machines.{Machine, Member, member, nobody, is_counted, is_counted_phase}
 use Rattle.rendezvous_machine.specs.Effects.{enclosed, made_closed, with_session}
-use Rattle.schedule_laws.proofs.Scenes.{Scene, seat}
+use Rattle.schedule_laws.proofs.Scenes.{Scene}
 use Rattle.schedule_laws.proofs.Stations.{bit, member_of, member_is, made}
 use Rattle.schedule_laws.proofs.Sums.{sum_below, sum_below-same, sum_below-two_gaps, sum_below-zero}
-use Rattle.schedule_laws.proofs.Invariant.{Context, View, IsCpu, IsSelf, IsTeam, IsPeer, IsRunOf, IsTotals, IsWords, IsSession, IsCourse, IsIdle, IsJobOf, IsBusy, IsSignal, IsReady, globe, locked, members_in, mode_of, raised_in, team_in, view}
+use Rattle.schedule_laws.proofs.Invariant.{Context, View, IsCpu, IsSelf, IsTeam, IsPeer, IsRunOf, IsTotals, IsWords, IsSession, IsCourse, IsJobOf, IsBusy, IsSignal, IsReady, globe, locked, members_in, mode_of, raised_in, team_in, view}
 use Rattle.schedule_laws.proofs.Frames.{bit-le, mode_le}
 use Rattle.schedule_laws.proofs.LeadFrames.{at_stage}
 use Rattle.schedule_laws.proofs.Facts.{counted_some}

@@ -1,15 +1,14 @@
 -- What holds after an AP's move, by what it changes: its seat and a signal; its member; its mark `present`; a raise of the BSP's word; a
 -- lowering of its own.
-use Rattle.std.proofs.Common.{ℕ, ◌+◌, ◌-◌, ◌*◌, ◌≡◌, ◌≢◌, ◌<◌, ◌≤◌, arith, Bool, true, false, List, length, get_or, slice_set, Option, Some, None, refl, sym, ap, subst, ◌∙◌}
+use Rattle.std.proofs.Common.{ℕ, ◌+◌, ◌-◌, ◌*◌, ◌≡◌, ◌≢◌, ◌<◌, ◌≤◌, arith, List, length, get_or, slice_set, Option, None, refl, sym, ap, subst, ◌∙◌}
 use Rattle.std.proofs.lemmas.List.{get_or-set_other, get_or-set_same, length-set}
 use Rattle.cpu_table.specs.Data.{SetupData}
-use Rattle.handler_ops.specs.declared.desk.Desk.{Desk}
 use Rattle.cpu_program.specs.declared.cargo.Cargo.{Cargo}
 use Rattle.rendezvous_machine.specs.Machines.{Machine, Member, member, nobody}
 use Rattle.rendezvous_machine.specs.Effects.{with_member}
 use Rattle.schedule_laws.proofs.Scenes.{Scene, Seat, Position, seat, no_seat}
 use Rattle.schedule_laws.proofs.Stations.{station_of, bit, member_of, made}
-use Rattle.schedule_laws.proofs.Invariant.{Context, View, IsCpu, Holds, IsRunOf, IsIdle, IsSignal, IsBusy, IsSized, sizes, view, view_at, view_of, seat_view}
+use Rattle.schedule_laws.proofs.Invariant.{Context, View, IsCpu, Holds, IsRunOf, IsIdle, IsSignal, IsBusy, view, view_at, view_of, seat_view}
 use Rattle.schedule_laws.proofs.Frames.{IsMover, IsKeeping, keeps_idle, peer_moves, view_is, run_of, seat_set, signals_more, busies_more, jobs_more}
 
 -- its seat, and signals

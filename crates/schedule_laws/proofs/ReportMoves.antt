@@ -1,13 +1,12 @@
 -- What an AP's own facts become from its report to its departure.
-use Rattle.std.proofs.Common.{ℕ, ◌+◌, ◌-◌, ◌*◌, ◌≡◌, ◌≢◌, ◌<◌, ◌≤◌, arith, Option, Some, None, get_or}
+use Rattle.std.proofs.Common.{ℕ, ◌+◌, ◌-◌, ◌*◌, ◌≡◌, ◌≢◌, ◌<◌, ◌≤◌, arith, Option, Some, None}
 use Rattle.save_state_map.specs.Images.{ImageContents}
-use Rattle.cpu_regs.specs.Registers.{Registers}
 use Rattle.cpu_table.specs.Data.{SetupData}
 use Rattle.handler_ops.specs.declared.desk.Desk.{Desk}
 use Rattle.handler_ops.specs.declared.desk.Job.{Job}
 use Rattle.cpu_program.specs.declared.cargo.Cargo.{Cargo}
 use Rattle.cpu_program.specs.declared.cargo.Cargo.TheVariants as cargo
-use Rattle.rendezvous_machine.specs.declared.phase.Phase.TheVariants.{Out, In, Counted, Here, Gone, Off}
+use Rattle.rendezvous_machine.specs.declared.phase.Phase.TheVariants.{Here, Gone}
 use Rattle.schedule_laws.proofs.Stations.{AwaitingDismissal, AwaitingEnd, AwaitingRelease, GivingBack, Reporting, SeekingBsp, TellingDismissal, TellingRelease, TellingReport, Withdrawing}
 use Rattle.schedule_laws.proofs.Invariant.{Context, View, IsCpu, IsSelf, IsTeam, IsPeer, IsRunOf, desk_at, desk_kept}
 

@@ -1,5 +1,5 @@
 -- Every schedule is a run, where each turn of a processor keeps what holds: the induction over the schedule, and its start.
-use Rattle.std.proofs.Common.{ℕ, zero, suc, ◌+◌, ◌≡◌, ◌≢◌, ◌<◌, ◌≤◌, arith, Bool, true, false, eqb, List, [], ◌∷◌, length, get_or, slice_set, replicate, map, Option, Some, None, refl, sym, ap, subst, ⊎_elim, ◌∙◌}
+use Rattle.std.proofs.Common.{ℕ, zero, suc, ◌+◌, ◌≡◌, ◌≢◌, ◌<◌, ◌≤◌, arith, List, [], ◌∷◌, length, get_or, slice_set, replicate, map, Option, Some, None, refl, sym, ap, subst, ⊎_elim, ◌∙◌}
 use Rattle.std.proofs.lemmas.Bool.{cases_eq, cases_lt, ne_eqb}
 use Rattle.std.proofs.lemmas.List.{get_or-set_other, get_or-set_same, length-set, length-replicate, get_or-replicate}
 use Rattle.std.specs.Prelude.{slice_get, zip}
@@ -11,7 +11,7 @@ use Rattle.cpu_table.specs.Data.{SetupData}
 use Rattle.handler_ops.specs.declared.desk.Desk.{Desk}
 use Rattle.serving_place.specs.declared.seat.Seat.{Seat as JobSeat}
 use Rattle.serving_place.specs.declared.seat.Seat.TheVariants.{Free}
-use Rattle.handler_ops.specs.Sessions.{first_session, Session as Chair}
+use Rattle.handler_ops.specs.Sessions.{first_session}
 use Rattle.cpu_program.specs.declared.cargo.Cargo.{Cargo}
 use Rattle.cpu_program.specs.Actors.{Actor}
 use Rattle.rendezvous_core.specs.Worlds.{World, step, step_of, start, first_words, first_lying, first_actors, own_chair, last_image, last_in, labels, replay_events, replay_world, events_from, world_after, as_cargo, chair_at_first}

@@ -1,13 +1,11 @@
 -- What an AP's own facts become on its way in, while it waits for a BSP, and on its way out.
-use Rattle.std.proofs.Common.{ℕ, ◌+◌, ◌-◌, ◌*◌, ◌≡◌, ◌≢◌, ◌<◌, ◌≤◌, arith, Option, Some, None, get_or}
+use Rattle.std.proofs.Common.{ℕ, ◌+◌, ◌-◌, ◌*◌, ◌≡◌, ◌≢◌, ◌<◌, ◌≤◌, arith, Option, Some, None}
 use Rattle.save_state_map.specs.Images.{ImageContents}
 use Rattle.cpu_regs.specs.Registers.{Registers}
 use Rattle.cpu_table.specs.Data.{SetupData}
 use Rattle.handler_ops.specs.declared.desk.Desk.{Desk}
-use Rattle.handler_ops.specs.declared.desk.Job.{Job}
-use Rattle.cpu_program.specs.declared.cargo.Cargo.{Cargo}
 use Rattle.cpu_program.specs.declared.cargo.Cargo.TheVariants as cargo
-use Rattle.rendezvous_machine.specs.declared.phase.Phase.TheVariants.{Out, In, Counted, Here, Gone, Off}
+use Rattle.rendezvous_machine.specs.declared.phase.Phase.TheVariants.{Out, In, Counted, Gone, Off}
 use Rattle.schedule_laws.proofs.Stations.{AskingForChair, AwaitingEnd, AwaitingInside, AwaitingInsideAgain, AwaitingSmi, Away, ClaimingChair, ClearingSignal, CountingIn, CountingOut, FindingBsp, LookingAtSource, LookingInside, SeekingBsp, SignallingBsp, SwitchingOff}
 use Rattle.schedule_laws.proofs.Invariant.{Context, View, IsCpu, IsSelf, IsTeam, IsPeer, IsRunOf, desk_at, desk_kept}
 

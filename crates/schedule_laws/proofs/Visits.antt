@@ -1,6 +1,6 @@
 -- The steps of a processor on its way in and on its way out.
-use Rattle.std.proofs.Common.{ℕ, ◌+◌, ◌-◌, ◌*◌, ◌%◌, ◌≡◌, ◌≢◌, ◌<◌, ◌≤◌, arith, true, false, eqb, List, length, get_or, slice_set, Option, Some, None, refl, sym, subst, ap, ⊎_elim, inl, inr, ◌∙◌}
-use Rattle.std.specs.Prelude.{◌||◌, ◌&&◌, ◌==◌, nat_le, nat_lt, option_map}
+use Rattle.std.proofs.Common.{ℕ, ◌+◌, ◌-◌, ◌*◌, ◌%◌, ◌≡◌, ◌≢◌, ◌<◌, ◌≤◌, arith, true, false, eqb, List, length, get_or, slice_set, Option, Some, None, refl, subst, ap, ⊎_elim, inl, inr, ◌∙◌}
+use Rattle.std.specs.Prelude.{◌||◌, ◌&&◌, ◌==◌, option_map}
 use Rattle.std.proofs.lemmas.Bool.{cases_eq, cases_Bool, ne_eqb, eq-eqb, lt-ltb, le-ltb, lt-leb, le-leb, cases_lt}
 use Rattle.std.proofs.lemmas.List.{get_or-set_other, get_or-set_same, length-set}
 use Rattle.smm_base.specs.declared.kinds.Policy.{Policy}
@@ -13,23 +13,21 @@ use Rattle.cpu_table.specs.Data.{SetupData}
 use Rattle.cpu_table.specs.Causes.{cause_of}
 use Rattle.arrival.specs.Entry as entry
 use Rattle.arrival.specs.Entry.{to_elect}
-use Rattle.arrival.specs.Rounds.{is_last_look}
 use Rattle.handler_ops.specs.declared.desk.Desk.{Desk}
 use Rattle.cpu_program.specs.declared.part.Part.TheVariants.{Between}
-use Rattle.cpu_program.specs.declared.cargo.Cargo.{Cargo}
 use Rattle.cpu_program.specs.declared.cargo.Cargo.TheVariants as cargo
 use Rattle.cpu_program.specs.Actors.{Processor, OfProcessor}
 use Rattle.cpu_program.specs.Processors.{left_to, to_await}
 use Rattle.rendezvous_core.specs.Worlds.{Words}
-use Rattle.rendezvous_machine.specs.declared.phase.Phase.TheVariants.{Out, In, Counted, Here, Gone, Off}
+use Rattle.rendezvous_machine.specs.declared.phase.Phase.TheVariants.{Out, In, Counted, Gone, Off}
 use Rattle.rendezvous_machine.specs.Machines.{Machine, member}
 use Rattle.rendezvous_machine.specs.Effects.{with_member}
-use Rattle.schedule_laws.proofs.Scenes.{Scene, Seat, Position, AwaitingSmi, SwitchingOff, LookingAtSource, LookingInside, CountingIn, ClaimingChair, AskingForChair, AwaitingInside, FindingBsp, SignallingBsp, AwaitingInsideAgain, CountingOut, SeekingBsp, Reporting, TellingReport, AwaitingRelease, AwaitingEnd, ClearingSignal, Away, seat, processor_at, actors_of, entering_at}
-use Rattle.schedule_laws.proofs.Stations.{station_of, member_of, work_of}
+use Rattle.schedule_laws.proofs.Scenes.{Scene, Seat, Position, AwaitingSmi, SwitchingOff, LookingAtSource, LookingInside, CountingIn, ClaimingChair, AskingForChair, AwaitingInside, AwaitingEnd, ClearingSignal, Away, seat, processor_at, actors_of, entering_at}
+use Rattle.schedule_laws.proofs.Stations.{station_of, work_of}
 use Rattle.schedule_laws.proofs.Invariant.{Context, View, IsCpu, IsIdle, IsSignal, Holds, IsFine, KeptAt, desk_at, locked, view_at}
-use Rattle.schedule_laws.proofs.Frames.{IsMover, mover, own_at, view_is, seated, stays, keeps_own, signal_set, bsp_run_low}
-use Rattle.schedule_laws.proofs.OwnFrames.{seat_holds, member_holds, present_holds, raise_holds}
-use Rattle.schedule_laws.proofs.Facts.{not_at_work, is_closed, not_closed, not_led, other_bsp, locked_stage, open_stage, inside_stage, counted_some, early_stage}
+use Rattle.schedule_laws.proofs.Frames.{IsMover, mover, own_at, seated, stays, signal_set}
+use Rattle.schedule_laws.proofs.OwnFrames.{seat_holds, member_holds}
+use Rattle.schedule_laws.proofs.Facts.{not_at_work, is_closed, not_closed, locked_stage, open_stage}
 use Rattle.schedule_laws.proofs.ImageKinds.{saved_kind}
 use Rattle.schedule_laws.proofs.VisitMoves.{arriving, arriving_first, arriving_first_run, arriving_owner, arriving_owner_run, arriving_run, coming_late, coming_late_run, entering, entering_run, looking_at_source, looking_at_source_run, looking_inside, looking_inside_run, resuming, resuming_last, resuming_last_run, resuming_run, session_ended, session_ended_run, switching_off, switching_off_run, turned_off, turned_off_run, turning, turning_run}
 

@@ -30,7 +30,7 @@ use Rattle.schedule_laws.proofs.Scenes.{Scene, Seat, GivingBack, AwaitingRelease
 use Rattle.schedule_laws.proofs.Stations.{station_of, work_of}
 use Rattle.schedule_laws.proofs.Stations as stations
 use Rattle.schedule_laws.proofs.Leads.{serves_stage}
-use Rattle.schedule_laws.proofs.Invariant.{Context, View, IsCpu, IsTotals, IsSession, IsAim, IsLead, IsAt, IsBeginning, IsServing, IsCollecting, IsWords, IsCourse, IsListed, IsJobOf, IsIdle, IsRunOf, IsBusy, IsSized, GoesOn, Holds, IsFine, KeptAt, begins_from, serves_from, mode_of, desk_at, first_place, globe, with_done, by_done, is_owed, seat_known, seat_listed, sizes, view, view_at, view_of, seat_view, locked}
+use Rattle.schedule_laws.proofs.Invariant.{Context, View, IsCpu, IsAt, IsCourse, IsJobOf, IsIdle, IsRunOf, IsBusy, GoesOn, Holds, IsFine, KeptAt, begins_from, serves_from, mode_of, desk_at, first_place, with_done, by_done, is_owed, seat_known, seat_listed, view, view_at, view_of, seat_view, locked}
 use Rattle.schedule_laws.proofs.Frames.{IsAround, IsMover, mover, around, peers_move, own_at, run_of, view_is, seat_set, seated, keeps_own, keeps_idle, busies_set, signals_more, mode_le}
 use Rattle.schedule_laws.proofs.Facts.{work_unreleased}
 use Rattle.schedule_laws.proofs.ImageKinds.{run_kind}

@@ -1,5 +1,5 @@
 -- The steps of an AP that waits for jobs and its release, and leaves.
-use Rattle.std.proofs.Common.{ℕ, ◌+◌, ◌-◌, ◌*◌, ◌≡◌, ◌≢◌, ◌<◌, ◌≤◌, arith, true, false, List, length, get_or, slice_set, Option, Some, None, refl, sym, subst, ap, ⊎_elim, ◌∙◌}
+use Rattle.std.proofs.Common.{ℕ, ◌+◌, ◌-◌, ◌*◌, ◌≡◌, ◌≢◌, ◌<◌, ◌≤◌, arith, true, length, get_or, slice_set, Option, Some, None, refl, sym, subst, ap, ⊎_elim, ◌∙◌}
 use Rattle.std.specs.Prelude.{IsSomeAnd}
 use Rattle.std.proofs.lemmas.Bool.{cases_eq, ne_eqb, eq-eqb, lt-ltb}
 use Rattle.std.proofs.lemmas.List.{get_or-set_other, get_or-set_same, length-set}
@@ -11,7 +11,7 @@ use Rattle.handler_ops.specs.declared.desk.Job.{Job}
 use Rattle.cpu_program.specs.declared.cargo.Cargo.TheVariants as cargo
 use Rattle.cpu_program.specs.Hands.{is_kind}
 use Rattle.cpu_program.specs.Processors.{job_to_run}
-use Rattle.rendezvous_machine.specs.declared.phase.Phase.TheVariants.{Here, Gone}
+use Rattle.rendezvous_machine.specs.declared.phase.Phase.TheVariants.{Gone}
 use Rattle.rendezvous_machine.specs.Machines.{Machine, Member, member}
 use Rattle.rendezvous_machine.specs.Effects.{with_member}
 use Rattle.schedule_laws.proofs.Scenes.{Scene, Seat, AwaitingRelease, GivingBack, TellingRelease, AwaitingDismissal, Withdrawing, TellingDismissal, AwaitingEnd, seat}
