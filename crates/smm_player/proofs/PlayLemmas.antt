@@ -20,7 +20,7 @@ use Rattle.smm_player.specs.Play.{is_exit_status, IsDone, IsStepped, IsPlayed, W
 use Rattle.smm_player.specs.Refusal.{refusal_status, refusal_line, usage_line, memory_line}
 use Rattle.smm_player.specs.Replays.{replayed, report_of, AreImagesAfter}
 use Rattle.smm_player.proofs.LoadLemmas.{cause_first}
-use Rattle.smm_player.proofs.ReplayLemmas.{one_follows}
+use Rattle.smm_player.proofs.ReplayLemmas.{follows_labels}
 
 -- the status of a refusal
 
@@ -238,7 +238,7 @@ step_played names files files' before after steps = record {
   written = steps.written;
   images = steps.images;
   saved = steps.saved;
-  follows = one_follows steps.plan steps.playable;
+  follows = follows_labels steps.plan steps.playable;
 }
 
 done_obeys : (asked : Command) (files files' : Option FileMap) (l w s : Type 0) (before after : Option (List ℕ)) → Performs asked files files' before after → ChangesOnly (saved_name asked) files files' →

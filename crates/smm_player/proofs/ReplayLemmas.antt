@@ -1,26 +1,26 @@
 -- The images after, the report and the faults of a replay.
-use Rattle.std.proofs.Common.{◌≡◌, ℕ, zero, suc, ◌+◌, ◌<◌, List, [], ◌∷◌, ◌++◌, length, map, All, true, Option, Some, Result, Ok, Err, IfErr, OnOk, refl, ap, sym, subst, ◌∙◌, arith, zero-add}
-use Rattle.std.specs.Prelude.{nat_le, slice_get, filter_map}
-use Rattle.std.specs.List.{range_with_len, cons_option, enumerate_from, list_all}
-use Rattle.std.proofs.lemmas.Bool.{and_parts, leb-true}
+use Rattle.std.proofs.Common.{◌≡◌, ℕ, zero, suc, ◌+◌, ◌<◌, List, [], ◌∷◌, ◌++◌, length, map, All, Option, Some, Result, Ok, Err, IfErr, OnOk, refl, ap, sym, subst, ◌∙◌, arith, zero-add}
+use Rattle.std.specs.Prelude.{slice_get, filter_map}
+use Rattle.std.specs.List.{range_with_len, cons_option, enumerate_from}
 use Rattle.std.proofs.lemmas.List.{length-map, map-append}
+use Rattle.std.proofs.lemmas.Option.{slice_get_within}
 use Rattle.std.proofs.lemmas.List.FromFn.{length-enumerate_from, length-map-range_with_len, map-range_with_len_more}
 use Rattle.smm_base.specs.Sink.{appended, GainsPrefix-whole}
-use Rattle.smm_base.specs.declared.kinds.Policy.{Policy}
 use Rattle.save_state_map.specs.Images.{ImageContents}
 use Rattle.cpu_table.specs.Data.{SetupData}
-use Rattle.cpu_table.specs.Ranges.{is_between, policy_fits, wave_fits, waves_fit, handlers_fit}
 use Rattle.rendezvous_core.specs.Platforms.{HasProcessorOf, KeepsPlatform}
-use Rattle.rendezvous_core.specs.Starts.{first_registers, first_registers_of}
+use Rattle.rendezvous_core.specs.Starts.{first_registers_of}
 use Rattle.rendezvous_core.specs.Worlds.{World, is_complete, last_image, replay_events}
 use Rattle.rendezvous_laws.proofs.Resumes.{last_resumed}
-use Rattle.rendezvous_laws.proofs.Runs.{IsReplayed, replayed as one_replayed}
-use Rattle.rendezvous_machine.specs.Runs.{resumed_image}
+use Rattle.rendezvous_machine.specs.Machines.{Machine, member, beginning}
+use Rattle.rendezvous_machine.specs.Runs.{machine_after}
+use Rattle.schedule_laws.proofs.Schedules.{IsReplayed}
+use Rattle.schedule_laws.proofs.AllSchedules.{every, platform_of}
 use Rattle.smm_player.specs.declared.fault.Fault.{Fault}
 use Rattle.smm_player.specs.declared.fault.Fault.TheVariants.{Refused, Write, Save, Memory}
 use Rattle.smm_player.specs.Ending.{EndsReplay, SaveFault}
-use Rattle.smm_player.specs.Plan.{Plan, plan, IsPlayable}
-use Rattle.smm_player.specs.Replays.{Replayed, images_by, registers_of, world_of, replayed, image_after, labels_of, report_of, AreImagesAfter, FollowsLabels}
+use Rattle.smm_player.specs.Plan.{Plan, IsPlayable}
+use Rattle.smm_player.specs.Replays.{Replayed, registers_of, world_of, replayed, image_after, labels_of, report_of, AreImagesAfter, FollowsLabels}
 use Rattle.smm_player.specs.Report.{report_text}
 
 -- the report by what the replay left
@@ -107,57 +107,70 @@ keeps_platform keeps p world playable is i below =
     let P : World → Type 0 = λ w. HasProcessorOf p.setup w i in
     subst P (sym is) (keeps p.setup registers p.images p.actors i (sym each) (omega (arith, below, each, playable.images.count)))
 
--- ONE PROCESSOR
+-- WHAT FOLLOWS FROM THE LABELS
 
-one_of : (images : List ImageContents) → length images ≡ 1 → (image : ImageContents) × (images ≡ image ∷ [])
-one_of [] is = absurd (omega (arith, is))
-one_of (image ∷ []) is = (image, refl)
-one_of (image ∷ (other ∷ others)) is = absurd (omega (arith, is))
+-- where each place of a range has an item, none is passed over
+all_there : {A : Type 0} (item_of : ℕ → Option A) (given : ℕ → A) (from n : ℕ) → ((k : ℕ) → k < n → item_of (from + k) ≡ Some (given (from + k))) → (i : ℕ) → i < n
+    → slice_get (filter_map item_of (range_with_len from n)) i ≡ Some (given (from + i))
+all_there item_of given from zero each i below = absurd (omega (arith, below))
+all_there {A} item_of given from (suc n) each zero below =
+    let none : from + 0 ≡ from = omega arith in
+    let here : item_of from ≡ Some (given (from + 0)) = ap item_of (sym none) ∙ each 0 (omega arith) in
+    ap (λ (o : Option A). slice_get (cons_option o (filter_map item_of (range_with_len (from + 1) n))) 0) here
+all_there {A} item_of given from (suc n) each (suc i) below =
+    let none : from + 0 ≡ from = omega arith in
+    let here : item_of from ≡ Some (given (from + 0)) = ap item_of (sym none) ∙ each 0 (omega arith) in
+    let on : (k : ℕ) → (from + 1) + k ≡ from + suc k = λ k. omega arith in
+    let later : (k : ℕ) → k < n → item_of ((from + 1) + k) ≡ Some (given ((from + 1) + k)) =
+    (λ k l. ap item_of (on k) ∙ each (suc k) (omega (arith, l)) ∙ ap (λ x. Some (given x)) (sym (on k))) in
+    ap (λ (o : Option A). slice_get (cons_option o (filter_map item_of (range_with_len (from + 1) n))) (suc i)) here
+    ∙ all_there item_of given (from + 1) n later i (omega (arith, below)) ∙ ap (λ x. Some (given x)) (on i)
 
--- what is asked of a platform
-abbrev has_waves : Plan → Type 0
-has_waves p = 0 < length p.setup.waves
+-- the registers that a processor begins with are those of its image
+registers_at : (d : SetupData) (from : ℕ) (images : List ImageContents) (i : ℕ) (image : ImageContents) → slice_get images i ≡ Some image
+    → slice_get (map (λ (x : ℕ × ImageContents). first_registers_of d x.0 x.1) (enumerate_from from images)) i ≡ Some (first_registers_of d (from + i) image)
+registers_at d from [] i image is = absurd cc
+registers_at d from (x ∷ images) zero image is =
+    let same : x ≡ image = cc in
+    let none : from ≡ from + 0 = omega arith in
+    ap (λ (y : ImageContents). Some (first_registers_of d from y)) same ∙ ap (λ (k : ℕ). Some (first_registers_of d k image)) none
+registers_at d from (x ∷ images) (suc i) image is =
+    let on : (from + 1) + i ≡ from + suc i = omega arith in
+    registers_at d (from + 1) images i image is ∙ ap (λ (k : ℕ). Some (first_registers_of d k image)) on
 
-waves_of : (p : Plan) → IsPlayable p → has_waves p
-waves_of p playable =
-    let count = and_parts (is_between 1 p.setup.visits (length p.setup.waves)) (list_all (wave_fits p.setup.processors) p.setup.waves) playable.waves in
-    leb-true 1 (length p.setup.waves) (and_parts (nat_le 1 (length p.setup.waves)) (nat_le (length p.setup.waves) p.setup.visits) count.0).0
+law : (p : Plan) → IsPlayable p → IsReplayed p.setup (registers_of p) p.images p.actors
+law p playable =
+    let count : length (registers_of p) ≡ length p.images = length-map (enumerate_from 0 p.images) _ ∙ length-enumerate_from 0 p.images in
+    every p.setup (registers_of p) p.images p.actors
+    (platform_of p.setup playable.some playable.few playable.visits playable.policy playable.waves playable.handlers)
+    (count ∙ playable.images.count) playable.images
 
-law : (p : Plan) (image : ImageContents) → IsPlayable p → p.setup.processors ≡ 1 → IsReplayed p.setup (first_registers_of p.setup 0 image) image p.actors
-law p image playable single =
-    let policy : policy_fits 1 p.setup.policy ≡ true = subst (λ (n : ℕ). policy_fits n p.setup.policy ≡ true) single playable.policy in
-    one_replayed p.setup (first_registers_of p.setup 0 image) image p.actors single policy playable.handlers playable.visits (waves_of p playable)
+-- the machine after the labels
+abbrev machine_of : Plan → Machine
+machine_of p = machine_after p.setup (beginning p.setup (registers_of p) p.images) (labels_of p)
 
--- the plan with this image alone, and the image that follows from its labels
-abbrev with_image : Plan → ImageContents → Plan
-with_image p image = record p { images = image ∷ [] }
-
-abbrev following : Plan → ImageContents → ImageContents
-following p image = resumed_image p.setup 0 (first_registers_of p.setup 0 image) image (labels_of (with_image p image))
-
--- the one image that is left
-image_left : (p : Plan) (image : ImageContents) → p.setup.processors ≡ 1 → IsReplayed p.setup (first_registers_of p.setup 0 image) image p.actors →
-    (replayed (with_image p image)).images ≡ following p image ∷ []
+-- the image after of each processor is the one that its labels tell
+image_left : (p : Plan) → IsReplayed p.setup (registers_of p) p.images p.actors → (i : ℕ) → i < p.setup.processors → slice_get (replayed p).images i ≡ Some (member (machine_of p) i).last
 unfolding replayed
-image_left p image single ran =
-    let own = first_registers_of p.setup 0 image in
-    let last = ran.after ∙ ap Some (last_resumed p.setup (own ∷ []) (image ∷ []) (labels_of (with_image p image)) 0 own image refl refl ran.run) in
-    ap (images_by (last_image (world_of (with_image p image)))) single ∙ ap (λ o. cons_option o []) last
+image_left p ran i below =
+    let zeros : (k : ℕ) → 0 + k ≡ k = λ k. omega arith in
+    all_there (last_image (world_of p)) (λ k. (member (machine_of p) k).last) 0 p.setup.processors
+    (λ k l. subst (λ (x : ℕ). last_image (world_of p) x ≡ Some (member (machine_of p) x).last) (sym (zeros k)) (ran.after k l)) i below
+    ∙ ap (λ x. Some (member (machine_of p) x).last) (zeros i)
 
--- it is that of the processor 0, and there is no other
-left_at : (p : Plan) (image : ImageContents) → (replayed (with_image p image)).images ≡ following p image ∷ [] → (i : ℕ) (first : ImageContents) → slice_get (image ∷ []) i ≡ Some first →
-    slice_get (replayed (with_image p image)).images i ≡ Some (resumed_image p.setup i (first_registers_of p.setup i first) first (labels_of (with_image p image)))
-left_at p image left zero first is =
-    let same : image ≡ first = cc in
-    ap (λ images. slice_get images 0) left ∙ ap (λ x. Some (resumed_image p.setup 0 (first_registers_of p.setup 0 x) x (labels_of (with_image p image)))) same
-left_at p image left (suc i) first is = absurd cc
-
-follows_with : (p : Plan) (image : ImageContents) → p.setup.processors ≡ 1 → IsReplayed p.setup (first_registers_of p.setup 0 image) image p.actors → FollowsLabels (with_image p image)
+follows_with : (p : Plan) → IsPlayable p → IsReplayed p.setup (registers_of p) p.images p.actors → FollowsLabels p
 unfolding replayed
-follows_with p image single ran = record { is_run = ran.run; resumed = left_at p image (image_left p image single ran) }
+follows_with p playable ran =
+    record {
+      is_run = ran.run;
+      resumed = λ i image is.
+          let below = slice_get_within p.images i image is in
+          let count = playable.images.count in
+          let zeros : 0 + i ≡ i = omega arith in
+          let own = registers_at p.setup 0 p.images i image is ∙ ap (λ (k : ℕ). Some (first_registers_of p.setup k image)) zeros in
+          image_left p ran i (omega (arith, below, count))
+          ∙ ap Some (last_resumed p.setup (registers_of p) p.images (labels_of p) i (first_registers_of p.setup i image) image own is ran.run);
+    }
 
-pub one_follows : (p : Plan) → IsPlayable p → p.setup.processors ≡ 1 → FollowsLabels p
-one_follows p playable single =
-    let only = one_of p.images (playable.images.count ∙ single) in
-    let P : List ImageContents → Type 0 = λ (images : List ImageContents). FollowsLabels (record p { images = images }) in
-    subst P (sym only.1) (follows_with p only.0 single (law p only.0 playable single))
+pub follows_labels : (p : Plan) → IsPlayable p → FollowsLabels p
+follows_labels p playable = follows_with p playable (law p playable)

@@ -19,9 +19,11 @@ plan setup images actors = record { setup = setup; images = images; actors = act
 abbrev pub plan_of : Inputs → Plan
 plan_of inputs = plan (data_of inputs.setup) inputs.images.items inputs.actors.items
 
--- the platform has a visit, and its policy, waves and handlers are in their ranges; there is an image of its kind for each
--- processor, with which the processor can begin; and it has each actor
+-- the platform has 1 to 64 processors and a visit, and its policy, waves and handlers are in their ranges; there is an image of
+-- its kind for each processor, with which the processor can begin; and it has each actor
 pub record IsPlayable (p : Plan) : Type 0 where
+  pub some : 1 ≤ p.setup.processors
+  pub few : p.setup.processors ≤ 64
   pub visits : 0 < p.setup.visits
   pub policy : IsTrue (policy_fits p.setup.processors p.setup.policy)
   pub waves : IsTrue (waves_fit p.setup.processors p.setup.visits p.setup.waves)

@@ -26,8 +26,7 @@ pub record IsDone (asked : Command) (files files' : Option FileMap) (before afte
   pub saved : IsSaved outcome.saving files'
 
 -- A step was done: the plan that is due, the report of its replay, and under AFTER the image that each processor last resumed
--- from, in the platform's kind. On a platform of one processor the report's labels are a run of the rendezvous machine, and
--- the image follows from them.
+-- from, in the platform's kind. The report's labels are a run of the rendezvous machine, and the images follow from them.
 pub record IsStepped (names : Step) (files files' : Option FileMap) (before after : Option (List ℕ)) : Type 0 where
   pub plan : Plan
   pub playable : IsPlayable plan
@@ -35,7 +34,7 @@ pub record IsStepped (names : Step) (files files' : Option FileMap) (before afte
   pub written : after ≡ appended before (report_of plan)
   pub images : AreImagesAfter plan (replayed plan).images
   pub saved : IsSaved (Some (saving_of names plan)) files'
-  pub follows : plan.setup.processors ≡ 1 → FollowsLabels plan
+  pub follows : FollowsLabels plan
 
 -- what each command has done
 abbrev pub IsPlayed : Command → Option FileMap → Option FileMap → Option (List ℕ) → Option (List ℕ) → Type 0

@@ -119,8 +119,7 @@ pub fn play<F: Store, K: Sink>(alloc: Global, words: &Vec<String>, store: &mut F
     ensures done { result ≡ 0 → IsSomeAnd (form_of (texts words.now.items)) (λ asked. IsDone asked (F.files store.old) (F.files store.new) (K.written out.old) (K.written out.new)) }
 
     // Of a step that is the report of the replay that is due, and under AFTER the image that each processor last resumed
-    // from, in the platform's kind. On a platform of one processor the labels are a run of the rendezvous machine, from
-    // which the image follows.
+    // from, in the platform's kind. The report's labels are a run of the rendezvous machine, from which the images follow.
     ensures played { result ≡ 0 → IsSomeAnd (form_of (texts words.now.items)) (λ asked. IsPlayed asked (F.files store.old) (F.files store.new) (K.written out.old) (K.written out.new)) }
 
     // Status 1 comes exactly where the words are of no form, unless there is no memory.
