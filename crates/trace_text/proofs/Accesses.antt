@@ -1,8 +1,8 @@
 -- Accesses.
-use Rattle.std.proofs.Common.{◌≡◌, ℕ, ◌+◌, ◌*◌, ◌^◌, ◌<◌, ◌≤◌, Bool, true, false, not, ◌&&◌, ◌==◌, nat_lt, nat_le, List, [], ◌∷◌, ◌++◌, Option, Some, None, option_map, codes, decimal, refl, ap, sym, subst, ◌∙◌, le-leb, leb-true, arith}
+use Rattle.std.proofs.Common.{◌≡◌, ℕ, ◌+◌, ◌*◌, ◌^◌, ◌≤◌, true, not, ◌&&◌, ◌==◌, nat_lt, nat_le, List, [], ◌∷◌, ◌++◌, Option, Some, None, option_map, codes, decimal, refl, ap, sym, subst, le-leb, leb-true, arith}
 use Rattle.std.proofs.lemmas.Bool.{and_parts, and_from}
 use Rattle.std.proofs.lemmas.Option.{none-some}
-use Rattle.sync_words.specs.Texts.{colon, access_text, with_arguments}
+use Rattle.sync_words.specs.Texts.{colon, access_text}
 use Rattle.sync_words.specs.declared.access.Access.{Access}
 use Rattle.sync_words.specs.declared.access.Access.TheVariants.{Look, Put, Up, Down, Lower, Lock, Claim, Await, Seek, Signal, TakeSmi, ClearSmi, Raise}
 use Rattle.sync_words.specs.declared.access.TheConstants.{LOCKED}

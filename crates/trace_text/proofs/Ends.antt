@@ -1,5 +1,5 @@
 -- The line that starts at a place, and its end.
-use Rattle.std.proofs.Common.{◌≡◌, ℕ, zero, suc, ◌+◌, ◌-◌, slice_range, ◌<◌, ◌≤◌, Bool, true, false, not, ◌==◌, List, [], ◌∷◌, ◌++◌, length, take, drop, Option, Some, None, inl, inr, cond, option_map, IsUtf8, IsAscii, position, refl, ap, sym, subst, ◌∙◌, append_assoc, length-append, length-take, length-drop, take-append-drop, min, if◌then◌else◌, arith}
+use Rattle.std.proofs.Common.{◌≡◌, ℕ, suc, ◌+◌, ◌-◌, slice_range, ◌<◌, ◌≤◌, Bool, true, false, not, ◌==◌, List, [], ◌∷◌, ◌++◌, length, take, drop, Option, Some, None, inl, inr, cond, option_map, IsUtf8, IsAscii, position, refl, ap, sym, ◌∙◌, append_assoc, length-append, length-take, length-drop, take-append-drop, min, arith}
 use Rattle.std.specs.List.{list_all, position_from}
 use Rattle.std.proofs.lemmas.Bool.{and_parts, cases_lt}
 use Rattle.std.proofs.lemmas.Bool.Decides.{nat_tests}

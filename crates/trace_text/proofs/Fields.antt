@@ -1,5 +1,5 @@
 -- The fields of a label: names, and lists of handlers.
-use Rattle.std.proofs.Common.{◌≡◌, ℕ, zero, suc, ◌+◌, ◌^◌, ◌<◌, ◌≤◌, Bool, true, false, not, ◌&&◌, ◌==◌, nat_lt, All, List, [], ◌∷◌, ◌++◌, inl, ◌%◌, length, get_or, Option, Some, None, Result, Ok, Err, IsOk, ◌↔◌, IfSome, option_map, codes, cond, decimal, refl, ap, sym, subst, ◌∙◌, if◌then◌else◌, arith}
+use Rattle.std.proofs.Common.{◌≡◌, ℕ, zero, suc, ◌^◌, ◌<◌, ◌≤◌, Bool, true, false, ◌&&◌, nat_lt, All, List, [], ◌∷◌, inl, ◌%◌, length, Option, Some, None, Result, Ok, Err, IsOk, ◌↔◌, IfSome, option_map, codes, refl, ap, sym, subst, ◌∙◌, if◌then◌else◌, arith}
 use Rattle.std.specs.Int.{w128, from_be_bytes, to_be_bytes, bytes_high_first, byte_at}
 use Rattle.std.specs.List.{list_all}
 use Rattle.std.specs.Str.{bytes_eq}
@@ -8,10 +8,10 @@ use Rattle.std.proofs.lemmas.Bool.Decides.{nat_tests}
 use Rattle.std.proofs.lemmas.List.Elements.{All-nil, All-cons}
 use Rattle.std.proofs.lemmas.List.Folds.{list_all-append}
 use Rattle.std.proofs.lemmas.Slice.Eq.{bytes_eq-Decides}
-use Rattle.uuid.specs.Text.{lower, by_index, hyphen, hex_digit, nibble, digit_place, is_hyphen_place, hyphenated_text, parsed}
+use Rattle.uuid.specs.Text.{lower, by_index, hyphen, hex_digit, nibble, digit_place, is_hyphen_place, parsed}
 use Rattle.uuid.proofs.OrderLemmas.{from_be_bytes-to_be_bytes_16}
 use Rattle.uuid.proofs.RoundTrips.{parses_hyphenated}
-use Rattle.uuid.proofs.TextLemmas.{by_index_length, by_index_at, nibble_small}
+use Rattle.uuid.proofs.TextLemmas.{by_index_length, nibble_small}
 use Rattle.smm_base.specs.Kinds.{after_text, after_named, guid_text, type_text}
 use Rattle.smm_base.specs.Register.{register_text, register_named, registers}
 use Rattle.smm_base.specs.Status.{status_text, status_named}
@@ -32,7 +32,7 @@ use Rattle.sync_words.specs.declared.label.StartRefusal.TheVariants.{OutOfRange}
 use Rattle.sync_words.specs.declared.label.TheConstants.{CAUSES}
 use Rattle.trace_text.specs.Readings.{tested, spells_guid, guid_of, kind_of}
 use Rattle.trace_text.specs.Spelling.{IsKind}
-use Rattle.trace_text.proofs.Bytes.{is_field_byte, Within, weaker}
+use Rattle.trace_text.proofs.Bytes.{is_field_byte, Within}
 use Rattle.trace_text.proofs.Spells.{Spells, word_case, tested_some, tested_gives, map_some}
 
 -- each value has its name

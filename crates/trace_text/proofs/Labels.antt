@@ -1,5 +1,5 @@
 -- Labels.
-use Rattle.std.proofs.Common.{◌≡◌, ℕ, ◌+◌, ◌^◌, ◌<◌, ◌≤◌, Bool, true, false, not, ◌&&◌, ◌==◌, nat_lt, nat_le, List, [], ◌∷◌, ◌++◌, Option, Some, None, option_map, codes, decimal, refl, ap, sym, subst, ◌∙◌, le-leb, leb-true, arith}
+use Rattle.std.proofs.Common.{◌≡◌, ℕ, ◌^◌, ◌<◌, not, ◌&&◌, ◌==◌, nat_le, List, [], ◌∷◌, ◌++◌, Option, Some, None, option_map, codes, decimal, refl, ap, sym, subst, le-leb, leb-true, arith}
 use Rattle.std.proofs.lemmas.Bool.{and_parts, and_from}
 use Rattle.std.proofs.lemmas.Option.{none-some}
 use Rattle.smm_base.specs.Kinds.{after_text, after_named, type_text}
@@ -9,7 +9,7 @@ use Rattle.smm_base.specs.declared.registers.Register.{Register as RegisterName}
 use Rattle.sync_words.specs.Texts.{colon, cause_text, cause_named, label_text}
 use Rattle.sync_words.specs.declared.label.Label.{Label}
 use Rattle.sync_words.specs.declared.label.Label.TheVariants.{Silent, Excepted, Wave, Enter, Turn, Arrive, Late, Elect, Served, Gather, Ready, Expire, Quit, Report, Close, Begin, Manage, Deep, Call, Return, Answer, Set, Read, Write, Check, Wait, Alloc, Free, Register, Unregister, Refuse, Start, Run, Collect, Spent, Done, Release, Depart, End, Resume, Off}
-use Rattle.trace_text.specs.Readings.{split_first, pair_at, number_below, small, middle, wide, kind_of, round_of, variable_of, bare_label, service_label, procedure_label, walk_label, session_label, label_by, label_of}
+use Rattle.trace_text.specs.Readings.{split_first, pair_at, small, middle, wide, kind_of, round_of, variable_of, bare_label, service_label, procedure_label, walk_label, session_label, label_by, label_of}
 use Rattle.trace_text.specs.Spelling.{IsKind, IsRound, IsVariable, IsLabel}
 use Rattle.trace_text.proofs.Accesses.{colon_free, meet}
 use Rattle.trace_text.proofs.Bytes.{is_field_byte, is_word_byte, Within, all_weaker, decimal_within, small_within, middle_within, wide_within, spelled_within}

@@ -1,15 +1,15 @@
 -- The last line of a trace.
-use Rattle.std.proofs.Common.{◌≡◌, ℕ, ◌+◌, ◌^◌, ◌<◌, ◌≤◌, Bool, true, false, not, ◌==◌, List, [], ◌∷◌, ◌++◌, length, take, drop, eqb, codes, decimal, Option, Some, None, IfSome, IfNone, IsUtf8, MatchOption, Bor, option_map, option_and_then, refl, ap, sym, subst, ◌∙◌, length-append, if◌then◌else◌, arith}
+use Rattle.std.proofs.Common.{◌≡◌, ℕ, ◌+◌, ◌^◌, ◌<◌, Bool, true, false, not, ◌==◌, List, [], ◌∷◌, ◌++◌, length, drop, eqb, codes, decimal, Option, Some, None, IfSome, IfNone, IsUtf8, MatchOption, Bor, option_map, option_and_then, refl, ap, sym, subst, ◌∙◌, length-append, if◌then◌else◌, arith}
 use Rattle.std.specs.List.{starts_with}
 use Rattle.std.specs.Str.Pattern.{FindsTextPrefix, StripsPrefix}
-use Rattle.std.proofs.lemmas.Option.{none-some, same_Some, cond_some, option_and_then_some}
+use Rattle.std.proofs.lemmas.Option.{none-some, cond_some, option_and_then_some}
 use Rattle.std.proofs.lemmas.Str.Pattern.{starts_text}
 use Rattle.sync_words.specs.Texts.{space, line_end}
 use Rattle.trace_text.specs.Last.{totals_text, last_line, AreNumbers, complete_of, stripped, behind, unserved_of, sessions_of, events_of, totals_with, totals_of, last_reading}
-use Rattle.trace_text.specs.Readings.{pair_at, wide, line_at}
+use Rattle.trace_text.specs.Readings.{pair_at, line_at}
 use Rattle.trace_text.specs.Spelling.{StandsAt}
 use Rattle.trace_text.specs.declared.last.Totals.{Totals}
-use Rattle.trace_text.proofs.Bytes.{is_field_byte, is_word_byte, is_line_byte, field_is_word, word_is_line, Within, all_weaker, weaker, none, both, one_more, wide_within}
+use Rattle.trace_text.proofs.Bytes.{is_word_byte, is_line_byte, Within, all_weaker, weaker, none, both, wide_within}
 use Rattle.trace_text.proofs.Ends.{line_said, text_found, text_utf8}
 use Rattle.trace_text.proofs.Fields.{Any}
 use Rattle.trace_text.proofs.Numbers.{number_spells}

@@ -1,9 +1,9 @@
 -- Lines of events, and where they stand.
-use Rattle.std.proofs.Common.{◌≡◌, ℕ, zero, suc, ◌+◌, ◌-◌, ◌^◌, ◌<◌, ◌≤◌, Bool, true, false, not, ◌&&◌, ◌==◌, nat_lt, nat_le, List, [], ◌∷◌, ◌++◌, length, take, drop, get_or, Option, Some, None, cond, option_map, option_and_then, decimal, IsUtf8, IsAscii, position, refl, ap, sym, subst, ◌∙◌, le-leb, leb-true, append_assoc, append-nil, length-append, length-take, take-append-drop, if◌then◌else◌, arith}
-use Rattle.std.proofs.lemmas.Bool.{and_parts, and_from, eqb-true}
+use Rattle.std.proofs.Common.{◌≡◌, ℕ, ◌+◌, ◌^◌, ◌<◌, ◌≤◌, true, not, ◌&&◌, ◌==◌, nat_le, List, [], ◌∷◌, ◌++◌, length, take, Option, Some, None, option_map, option_and_then, decimal, IsUtf8, refl, ap, sym, subst, ◌∙◌, le-leb, leb-true, append-nil, length-append, arith}
+use Rattle.std.proofs.lemmas.Bool.{and_parts, and_from}
 use Rattle.std.proofs.lemmas.Bool.Decides.{nat_tests}
 use Rattle.std.proofs.lemmas.List.{take_at}
-use Rattle.std.proofs.lemmas.Option.{none-some, same_Some, option_and_then_some}
+use Rattle.std.proofs.lemmas.Option.{same_Some, option_and_then_some}
 use Rattle.sync_words.specs.Steps.{IsWord}
 use Rattle.sync_words.specs.Texts.{space, line_end, actor_text, word_text, access_text, label_text, event_text, event_line}
 use Rattle.sync_words.specs.declared.access.Access.{Access}
@@ -11,16 +11,15 @@ use Rattle.sync_words.specs.declared.access.TheConstants.{LOCKED}
 use Rattle.sync_words.specs.declared.event.Event.{Event}
 use Rattle.sync_words.specs.declared.label.Label.{Label}
 use Rattle.sync_words.specs.declared.word.WordId.{WordId}
-use Rattle.trace_text.specs.Readings.{tested, split_first, pair_at, middle, actor_of, word_of, access_of, label_of, after_access, after_word, after_actor, is_word, has_up_to, event_with, is_within, event_of, line_at, reading}
+use Rattle.trace_text.specs.Readings.{pair_at, actor_of, after_access, after_word, after_actor, is_word, has_up_to, event_with, is_within, event_of, line_at, reading}
 use Rattle.trace_text.specs.Spelling.{HasUpTo, IsLabel, IsSpelling, StandsAt}
 use Rattle.trace_text.proofs.Accesses.{greatest, access_spells, access_within, access_wider, access_passes, access_is, access_fits}
 use Rattle.trace_text.proofs.Bytes.{is_field_byte, is_word_byte, is_line_byte, field_is_word, word_is_line, Within, all_weaker, weaker, none, both, one_more, decimal_within}
 use Rattle.trace_text.proofs.Ends.{line_said, text_found, text_utf8}
 use Rattle.trace_text.proofs.Labels.{middle_spells, label_spells, label_within}
-use Rattle.trace_text.proofs.Numbers.{below_spells}
 use Rattle.trace_text.proofs.Places.{IsActor, actor_spells, actor_within, word_spells, word_within, word_passes, word_is, word_fits}
 use Rattle.trace_text.proofs.Spells.{Spells, trailing, pairs, tested_some, tested_gives, map_some}
-use Rattle.trace_text.proofs.Splits.{Lacks, split_whole, split_gives}
+use Rattle.trace_text.proofs.Splits.{Lacks}
 
 -- no word has a space in it
 pub space_free : (b : ℕ) → is_word_byte b ≡ true → not (b == space) ≡ true

@@ -166,26 +166,78 @@ round_of text = tested (λ round. nat_le 1 round && nat_le round 2) (middle text
 abbrev pub variable_of : List ℕ → Option ℕ
 variable_of text = tested (λ variable. nat_le variable 7) (number_below (2 ^ 8) text)
 
+-- a variable that is set
+abbrev pub set_of : List ℕ → Option Label
+set_of fields = option_map (λ fields. Set fields.0 fields.1) (pair_at colon variable_of wide fields)
+
+-- a register that is read
+abbrev pub read_of : List ℕ → Option Label
+read_of fields = option_map (λ fields. Read fields.0 fields.1.0 fields.1.1.0 fields.1.1.1.0 fields.1.1.1.1) (pair_at colon small (pair_at colon register_named (pair_at colon middle (pair_at colon wide status_named))) fields)
+
+-- a register that is written
+abbrev pub write_of : List ℕ → Option Label
+write_of fields = option_map (λ fields. Write fields.0 fields.1.0 fields.1.1.0 fields.1.1.1.0 fields.1.1.1.1) (pair_at colon small (pair_at colon register_named (pair_at colon middle (pair_at colon wide status_named))) fields)
+
+-- a block that is asked for
+abbrev pub alloc_of : List ℕ → Option Label
+alloc_of fields = option_map (λ fields. Alloc fields.0 fields.1.0 fields.1.1) (pair_at colon wide (pair_at colon wide status_named) fields)
+
+-- a block that is given back
+abbrev pub free_of : List ℕ → Option Label
+free_of fields = option_map (λ fields. Free fields.0 fields.1) (pair_at colon wide status_named fields)
+
+-- a handler that is registered
+abbrev pub register_of : List ℕ → Option Label
+register_of fields = option_map (λ fields. Register fields.0 fields.1.0 fields.1.1) (pair_at colon small (pair_at colon middle status_named) fields)
+
+-- a registration that is ended
+abbrev pub unregister_of : List ℕ → Option Label
+unregister_of fields = option_map (λ fields. Unregister fields.0 fields.1) (pair_at colon wide status_named fields)
+
+-- a job that is asked for
+abbrev pub check_of : List ℕ → Option Label
+check_of fields = option_map (λ fields. Check fields.0 fields.1) (pair_at colon wide status_named fields)
+
+-- a job that is waited for
+abbrev pub wait_of : List ℕ → Option Label
+wait_of fields = option_map (λ fields. Wait fields.0 fields.1.0 fields.1.1) (pair_at colon wide (pair_at colon wide status_named) fields)
+
+-- a start that is refused
+abbrev pub refuse_of : List ℕ → Option Label
+refuse_of fields = option_map (λ fields. Refuse fields.0 fields.1) (pair_at colon small cause_named fields)
+
+-- a job that is given to a processor
+abbrev pub start_of : List ℕ → Option Label
+start_of fields = option_map (λ fields. Start fields.0 fields.1.0 fields.1.1.0 fields.1.1.1) (pair_at colon small (pair_at colon middle (pair_at colon small wide)) fields)
+
+-- a job that is run
+abbrev pub run_of : List ℕ → Option Label
+run_of fields = option_map (λ fields. Run fields.0 fields.1.0 fields.1.1) (pair_at colon middle (pair_at colon wide status_named) fields)
+
+-- a handler's answer
+abbrev pub return_of : List ℕ → Option Label
+return_of fields = option_map (λ fields. Return fields.0 fields.1) (pair_at colon small status_named fields)
+
 -- a label of a service that a handler calls
 abbrev pub service_label : List ℕ → List ℕ → Option Label
 service_label word fields =
-    if bytes_eq word (codes "set") then option_map (λ fields. Set fields.0 fields.1) (pair_at colon variable_of wide fields)
-    else if bytes_eq word (codes "read") then option_map (λ fields. Read fields.0 fields.1.0 fields.1.1.0 fields.1.1.1.0 fields.1.1.1.1) (pair_at colon small (pair_at colon register_named (pair_at colon middle (pair_at colon wide status_named))) fields)
-    else if bytes_eq word (codes "write") then option_map (λ fields. Write fields.0 fields.1.0 fields.1.1.0 fields.1.1.1.0 fields.1.1.1.1) (pair_at colon small (pair_at colon register_named (pair_at colon middle (pair_at colon wide status_named))) fields)
-    else if bytes_eq word (codes "alloc") then option_map (λ fields. Alloc fields.0 fields.1.0 fields.1.1) (pair_at colon wide (pair_at colon wide status_named) fields)
-    else if bytes_eq word (codes "free") then option_map (λ fields. Free fields.0 fields.1) (pair_at colon wide status_named fields)
-    else if bytes_eq word (codes "register") then option_map (λ fields. Register fields.0 fields.1.0 fields.1.1) (pair_at colon small (pair_at colon middle status_named) fields)
-    else if bytes_eq word (codes "unregister") then option_map (λ fields. Unregister fields.0 fields.1) (pair_at colon wide status_named fields)
+    if bytes_eq word (codes "set") then set_of fields
+    else if bytes_eq word (codes "read") then read_of fields
+    else if bytes_eq word (codes "write") then write_of fields
+    else if bytes_eq word (codes "alloc") then alloc_of fields
+    else if bytes_eq word (codes "free") then free_of fields
+    else if bytes_eq word (codes "register") then register_of fields
+    else if bytes_eq word (codes "unregister") then unregister_of fields
     else None
 
 -- a label of a procedure, or of a service
 abbrev pub procedure_label : List ℕ → List ℕ → Option Label
 procedure_label word fields =
-    if bytes_eq word (codes "check") then option_map (λ fields. Check fields.0 fields.1) (pair_at colon wide status_named fields)
-    else if bytes_eq word (codes "wait") then option_map (λ fields. Wait fields.0 fields.1.0 fields.1.1) (pair_at colon wide (pair_at colon wide status_named) fields)
-    else if bytes_eq word (codes "refuse") then option_map (λ fields. Refuse fields.0 fields.1) (pair_at colon small cause_named fields)
-    else if bytes_eq word (codes "start") then option_map (λ fields. Start fields.0 fields.1.0 fields.1.1.0 fields.1.1.1) (pair_at colon small (pair_at colon middle (pair_at colon small wide)) fields)
-    else if bytes_eq word (codes "run") then option_map (λ fields. Run fields.0 fields.1.0 fields.1.1) (pair_at colon middle (pair_at colon wide status_named) fields)
+    if bytes_eq word (codes "check") then check_of fields
+    else if bytes_eq word (codes "wait") then wait_of fields
+    else if bytes_eq word (codes "refuse") then refuse_of fields
+    else if bytes_eq word (codes "start") then start_of fields
+    else if bytes_eq word (codes "run") then run_of fields
     else if bytes_eq word (codes "collect") then option_map Collect (small fields)
     else service_label word fields
 
@@ -196,7 +248,7 @@ walk_label word fields =
     else if bytes_eq word (codes "manage") then option_map Manage (kind_of fields)
     else if bytes_eq word (codes "deep") then option_map Deep (kind_of fields)
     else if bytes_eq word (codes "call") then option_map Call (small fields)
-    else if bytes_eq word (codes "return") then option_map (λ fields. Return fields.0 fields.1) (pair_at colon small status_named fields)
+    else if bytes_eq word (codes "return") then return_of fields
     else if bytes_eq word (codes "answer") then option_map Answer (status_named fields)
     else procedure_label word fields
 

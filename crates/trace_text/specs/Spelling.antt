@@ -7,7 +7,7 @@ use Rattle.sync_words.specs.declared.access.Access.TheVariants.{Put, Claim, Awai
 use Rattle.sync_words.specs.declared.access.TheConstants.{LOCKED}
 use Rattle.sync_words.specs.declared.event.Event.{Event}
 use Rattle.sync_words.specs.declared.label.Label.{Label}
-use Rattle.sync_words.specs.declared.label.Label.TheVariants.{Silent, Excepted, Wave, Enter, Turn, Arrive, Late, Elect, Served, Gather, Ready, Expire, Quit, Report, Close, Begin, Manage, Deep, Call, Return, Answer, Set, Read, Write, Check, Wait, Alloc, Free, Register, Unregister, Refuse, Start, Run, Collect, Spent, Done, Release, Depart, End, Resume, Off}
+use Rattle.sync_words.specs.declared.label.Label.TheVariants.{Excepted, Wave, Served, Gather, Ready, Expire, Close, Begin, Manage, Deep, Call, Return, Set, Read, Write, Check, Wait, Alloc, Free, Register, Unregister, Refuse, Start, Run, Collect, Release}
 use Rattle.sync_words.specs.Steps.{IsWord}
 
 -- a list of handlers is the root list, or that of a GUID of 128 bits

@@ -1,7 +1,5 @@
 ghost use Rattle.std.specs.Prelude.{◌≡◌, nat_le, ◌&&◌};
-ghost use Rattle.std.specs.Option.{option_map};
-ghost use Rattle.trace_text.specs.Readings.{round_of, variable_of, wide, pair_at, bare_label, service_label, procedure_label, walk_label, session_label, label_of};
-ghost use Rattle.sync_words.specs.Texts.{colon};
+ghost use Rattle.trace_text.specs.Readings.{round_of, variable_of, set_of, read_of, write_of, alloc_of, free_of, register_of, unregister_of, check_of, wait_of, refuse_of, start_of, run_of, return_of, bare_label, service_label, procedure_label, walk_label, session_label, label_of};
 
 use crate::field::Field;
 use crate::split::split_at_colon;
@@ -27,64 +25,160 @@ fn read_variable(text: &str) -> Option<u8>
     }
 }
 
-// The fields of a variable that is set.
-fn read_set(fields: &str) -> Option<(u8, u64)>
-    ensures { result ≡ pair_at colon variable_of wide fields.now }
+// A variable that is set.
+fn set_label(fields: &str) -> Option<Label>
+    ensures { result ≡ set_of fields.now }
 {
     let (variable, value) = split_at_colon(fields)?;
-    Some((read_variable(variable)?, u64::read(value)?))
+    let variable = read_variable(variable)?;
+    let value = u64::read(value)?;
+    Some(Label::Set { variable, value })
 }
 
 // The fields of a register that is read or written.
 type Moved = (u16, (Register, (u32, (u64, Status))));
+
+// A register that is read.
+fn register_read_label(fields: &str) -> Option<Label>
+    ensures { result ≡ read_of fields.now }
+{
+    let (cpu, (register, (width, (value, status)))) = Moved::read(fields)?;
+    Some(Label::Read {
+        cpu,
+        register,
+        width,
+        value,
+        status,
+    })
+}
+
+// A register that is written.
+fn register_write_label(fields: &str) -> Option<Label>
+    ensures { result ≡ write_of fields.now }
+{
+    let (cpu, (register, (width, (value, status)))) = Moved::read(fields)?;
+    Some(Label::Write {
+        cpu,
+        register,
+        width,
+        value,
+        status,
+    })
+}
+
+// A block that is asked for.
+fn alloc_label(fields: &str) -> Option<Label>
+    ensures { result ≡ alloc_of fields.now }
+{
+    let (size, (place, status)) = <(u64, (u64, Status))>::read(fields)?;
+    Some(Label::Alloc {
+        size,
+        place,
+        status,
+    })
+}
+
+// A block that is given back.
+fn free_label(fields: &str) -> Option<Label>
+    ensures { result ≡ free_of fields.now }
+{
+    let (place, status) = <(u64, Status)>::read(fields)?;
+    Some(Label::Free { place, status })
+}
+
+// A handler that is registered.
+fn registration_label(fields: &str) -> Option<Label>
+    ensures { result ≡ register_of fields.now }
+{
+    let (handler, (serial, status)) = <(u16, (u32, Status))>::read(fields)?;
+    Some(Label::Register {
+        handler,
+        serial,
+        status,
+    })
+}
+
+// A registration that is ended.
+fn unregister_label(fields: &str) -> Option<Label>
+    ensures { result ≡ unregister_of fields.now }
+{
+    let (handle, status) = <(u64, Status)>::read(fields)?;
+    Some(Label::Unregister { handle, status })
+}
+
+// A job that is asked for.
+fn check_label(fields: &str) -> Option<Label>
+    ensures { result ≡ check_of fields.now }
+{
+    let (job, status) = <(u64, Status)>::read(fields)?;
+    Some(Label::Check { job, status })
+}
+
+// A job that is waited for.
+fn wait_label(fields: &str) -> Option<Label>
+    ensures { result ≡ wait_of fields.now }
+{
+    let (job, (result_value, status)) = <(u64, (u64, Status))>::read(fields)?;
+    Some(Label::Wait {
+        job,
+        result_value,
+        status,
+    })
+}
+
+// A start that is refused.
+fn refuse_label(fields: &str) -> Option<Label>
+    ensures { result ≡ refuse_of fields.now }
+{
+    let (cpu, cause) = <(u16, StartRefusal)>::read(fields)?;
+    Some(Label::Refuse { cpu, cause })
+}
+
+// A job that is given to a processor.
+fn start_label(fields: &str) -> Option<Label>
+    ensures { result ≡ start_of fields.now }
+{
+    let (cpu, (job, (procedure, arg))) = <(u16, (u32, (u16, u64)))>::read(fields)?;
+    Some(Label::Start {
+        cpu,
+        job,
+        procedure,
+        arg,
+    })
+}
+
+// A job that is run.
+fn run_label(fields: &str) -> Option<Label>
+    ensures { result ≡ run_of fields.now }
+{
+    let (job, (result_value, status)) = <(u32, (u64, Status))>::read(fields)?;
+    Some(Label::Run {
+        job,
+        result_value,
+        status,
+    })
+}
+
+// A handler's answer.
+fn return_label(fields: &str) -> Option<Label>
+    ensures { result ≡ return_of fields.now }
+{
+    let (handler, status) = <(u16, Status)>::read(fields)?;
+    Some(Label::Return { handler, status })
+}
 
 // A label of a service that a handler calls.
 fn read_service(word: &str, fields: &str) -> Option<Label>
     ensures { result ≡ service_label word.now fields.now }
 {
     match word {
-        "set" => read_set(fields).map(|(variable, value)| Label::Set { variable, value }),
-        "read" => Moved::read(fields).map(|(
-            cpu,
-            (register, (width, (value, status))),
-        )| Label::Read {
-            cpu,
-            register,
-            width,
-            value,
-            status,
-        }),
-        "write" => Moved::read(fields).map(|(
-            cpu,
-            (register, (width, (value, status))),
-        )| Label::Write {
-            cpu,
-            register,
-            width,
-            value,
-            status,
-        }),
-        "alloc" => <(u64, (u64, Status))>::read(fields).map(|(size, (place, status))| Label::Alloc {
-            size,
-            place,
-            status,
-        }),
-        "free" => <(u64, Status)>::read(fields).map(|(place, status)| Label::Free {
-            place,
-            status,
-        }),
-        "register" => <(u16, (u32, Status))>::read(fields).map(|(
-            handler,
-            (serial, status),
-        )| Label::Register {
-            handler,
-            serial,
-            status,
-        }),
-        "unregister" => <(u64, Status)>::read(fields).map(|(handle, status)| Label::Unregister {
-            handle,
-            status,
-        }),
+        "set" => set_label(fields),
+        "read" => register_read_label(fields),
+        "write" => register_write_label(fields),
+        "alloc" => alloc_label(fields),
+        "free" => free_label(fields),
+        "register" => registration_label(fields),
+        "unregister" => unregister_label(fields),
         _ => None,
     }
 }
@@ -94,36 +188,11 @@ fn read_procedure(word: &str, fields: &str) -> Option<Label>
     ensures { result ≡ procedure_label word.now fields.now }
 {
     match word {
-        "check" => <(u64, Status)>::read(fields).map(|(job, status)| Label::Check { job, status }),
-        "wait" => <(u64, (u64, Status))>::read(fields).map(|(
-            job,
-            (result_value, status),
-        )| Label::Wait {
-            job,
-            result_value,
-            status,
-        }),
-        "refuse" => <(u16, StartRefusal)>::read(fields).map(|(cpu, cause)| Label::Refuse {
-            cpu,
-            cause,
-        }),
-        "start" => <(u16, (u32, (u16, u64)))>::read(fields).map(|(
-            cpu,
-            (job, (procedure, arg)),
-        )| Label::Start {
-            cpu,
-            job,
-            procedure,
-            arg,
-        }),
-        "run" => <(u32, (u64, Status))>::read(fields).map(|(
-            job,
-            (result_value, status),
-        )| Label::Run {
-            job,
-            result_value,
-            status,
-        }),
+        "check" => check_label(fields),
+        "wait" => wait_label(fields),
+        "refuse" => refuse_label(fields),
+        "start" => start_label(fields),
+        "run" => run_label(fields),
         "collect" => u16::read(fields).map(|cpu| Label::Collect(cpu)),
         _ => read_service(word, fields),
     }
@@ -138,10 +207,7 @@ fn read_walk(word: &str, fields: &str) -> Option<Label>
         "manage" => HandlerType::read(fields).map(|kind| Label::Manage(kind)),
         "deep" => HandlerType::read(fields).map(|kind| Label::Deep(kind)),
         "call" => u16::read(fields).map(|handler| Label::Call(handler)),
-        "return" => <(u16, Status)>::read(fields).map(|(handler, status)| Label::Return {
-            handler,
-            status,
-        }),
+        "return" => return_label(fields),
         "answer" => Status::read(fields).map(|status| Label::Answer(status)),
         _ => read_procedure(word, fields),
     }

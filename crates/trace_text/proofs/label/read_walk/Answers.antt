@@ -1,4 +1,3 @@
-use Rattle.std.proofs.Common.{refl}
 use Rattle.trace_text.proofs.Spells.{passed}
 use Rattle.trace_text.proofs.label.read_walk.Goals as goal
 

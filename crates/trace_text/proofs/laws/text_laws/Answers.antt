@@ -1,7 +1,3 @@
-use Rattle.std.proofs.Common.{◌≡◌, ℕ, ◌+◌, ◌^◌, ◌<◌, ◌≤◌, List, [], ◌∷◌, length, length-append, arith}
-use Rattle.sync_words.specs.Texts.{line_end, event_text, event_line}
-use Rattle.sync_words.specs.declared.event.Event.{Event}
-use Rattle.trace_text.specs.Spelling.{IsSpelling}
 use Rattle.trace_text.proofs.Lines.{one_line, one_place, line_few}
 use Rattle.trace_text.proofs.laws.text_laws.Goals as goal
 
