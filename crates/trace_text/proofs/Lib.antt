@@ -1,0 +1,11 @@
+pub mod Accesses
+pub mod Bytes
+pub mod Ends
+pub mod Fields
+pub mod Labels
+pub mod LastLines
+pub mod Lines
+pub mod Numbers
+pub mod Places
+pub mod Spells
+pub mod Splits
