@@ -4,4 +4,3 @@ pub mod StartLemmas
 pub mod NumberLemmas
 pub mod ActorLemmas
 pub mod PlatformLemmas
-pub mod Finishing

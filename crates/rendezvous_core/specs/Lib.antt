@@ -9,4 +9,3 @@ pub mod StartsInside
 pub mod Turns
 pub mod WorldInside
 pub mod Platforms
-pub mod Endings

@@ -4,7 +4,6 @@
 
 mod beginning;
 mod error;
-mod finish;
 mod laws;
 mod lying;
 mod lying_on_kind;

@@ -1,4 +1,4 @@
-ghost use Rattle.std.specs.Prelude.{◌≡◌, ◌<◌, ◌≤◌, ◌+◌, ◌++◌, [], length, IfOk, IfErr, OnOk, None, Some};
+ghost use Rattle.std.specs.Prelude.{◌≡◌, ◌<◌, ◌≤◌, ◌++◌, [], length, IfOk, IfErr, OnOk, None, Some};
 ghost use Rattle.cpu_table.specs.Data.{data_of};
 ghost use Rattle.rendezvous_core.specs.Platforms.{HasFittingImage};
 ghost use Rattle.rendezvous_core.specs.Starts.{AreImagesOf, first_registers, start_refusal, IsRefusedBy};
@@ -99,35 +99,6 @@ impl World {
         if let Stepped::Event(event) = stepped {
             self.events.push_reserved(event);
         }
-    }
-
-    // One step of an actor, where there is room for the event that may come of it.
-    pub(crate) fn step_within(&mut self, actor: u16) -> Stepped
-        requires actor_in { actor ≤ self.old.processors }
-        requires has_room { length self.old.events + length (with_event (step self.old.world actor).0 []) ≤ self.old.room }
-        ensures stepped { result ≡ (step self.old.world actor).0 }
-        ensures replay { self.new ≡ record self.old { world = (step self.old.world actor).1; events = self.old.events ++ with_event (step self.old.world actor).0 [] } }
-    {
-        let stepped = self.step_actor(actor);
-        self.keep_within(stepped);
-        stepped
-    }
-
-    // Keeps the event of a step, where there is room for it.
-    fn keep_within(&mut self, stepped: Stepped)
-        requires { length self.old.events + length (with_event stepped []) ≤ self.old.room }
-        ensures { self.new ≡ record self.old { events = self.old.events ++ with_event stepped [] } }
-    {
-        if let Stepped::Event(event) = stepped {
-            self.events.push_reserved(event);
-        }
-    }
-
-    /// How many processors there are.
-    pub(crate) fn processors(&self) -> u16
-        ensures { result ≡ self.now.processors }
-    {
-        self.processors
     }
 
     /// One step of an actor: a processor by its number, or the chipset, which has the number of processors. It takes no
