@@ -115,7 +115,7 @@ read_width ps s (Saying m) c w x r S e = not_label m e
 read_width ps s (Awaiting k) c w x r S e = absurd cc
 read_width ps s (Doing n (op.Read cpu reg width into)) c w x r S e =
     let h = (fits_tells ps (op.Read cpu reg width into) s (say.Read c r w x S)).0 e in
-    let same : w ≡ width = h.1.1.0 in
+    let same : w ≡ width = h.2 in
     ap Some (sym same)
 read_width ps s (Doing zero (op.Manage kind)) c w x r S e = absurd cc
 read_width ps s (Doing (suc n) (op.Manage kind)) c w x r S e = absurd cc

@@ -5,6 +5,7 @@ use Rattle.std.specs.List.{find}
 use Rattle.smm_base.specs.declared.kinds.HandlerType.{HandlerType}
 use Rattle.smm_base.specs.declared.kinds.HandlerType.TheVariants.{Root, Typed}
 use Rattle.smm_base.specs.declared.registers.Register.{Register}
+use Rattle.smm_base.specs.declared.registers.Register.TheVariants.{GdtBase}
 use Rattle.smm_base.specs.declared.status.Status.{Status}
 use Rattle.smm_base.specs.declared.status.Status.TheVariants as status
 use Rattle.smm_base.specs.Register.{register_number, register_numbered}
@@ -23,6 +24,7 @@ abbrev status_numbered : ℕ → Option Status
 status_numbered n = find (λ S. status_number S == n) statuses
 
 by_number : (S : Status) → status_numbered (status_number S) ≡ Some S
+by_number status.Success = refl
 by_number _ = refl
 
 same_status : (S T : Status) → status_number T ≡ status_number S → T ≡ S
@@ -34,6 +36,7 @@ pub status_tells : (S T : Status) → Tells (is_status S T) (T ≡ S)
 status_tells S T = along (same_status S T) (ap status_number) (number_tells (status_number T) (status_number S))
 
 by_register : (r : Register) → register_numbered (register_number r) ≡ Some r
+by_register GdtBase = refl
 by_register _ = refl
 
 same_register : (r q : Register) → register_number q ≡ register_number r → q ≡ r

@@ -23,7 +23,7 @@ use Rattle.serving_place.specs.Operations.{register_of, pool_status, free_status
 use Rattle.serving_place.specs.Places.{MayOpen, MayOperate, MayDo}
 use Rattle.serving_judge.specs.Words.{is_status, is_register}
 use Rattle.serving_judge.specs.Tests.{is_free, is_done, has_ended, has_open, is_out_on, read_shows, write_shows, check_shows, wait_shows, alloc_shows, register_shows, is_place, starts, fits_read, fits_write, fits_start, fits_check, fits_wait, fits_alloc, fits_free, fits_unregister, fits, collects, opens, operates, does}
-use Rattle.serving_judge.proofs.Telling.{Tells, never, nothing, always, both, isnt, along, number_tells, below_tells}
+use Rattle.serving_judge.proofs.Telling.{Tells, never, nothing, always, both, four, five, isnt, along, number_tells, below_tells}
 use Rattle.serving_judge.proofs.Labels.{status_tells, register_tells, deep_tells, manage_tells}
 
 -- SEATS AND TOKENS
@@ -108,15 +108,15 @@ fits_tells ps (op.Set into value) s (say.Set v x) =
     both (v == into) (x == number s value) (number_tells v into) (number_tells x (number s value))
 fits_tells ps (op.Set into value) s _ = nothing
 fits_tells ps (op.Read cpu reg width into) s (say.Read c r w x S) =
-    both (c == cpu) _ (number_tells c cpu)
+    four (both (c == cpu) _ (number_tells c cpu)
     (both (is_register (register_of reg) r) _ (register_tells (register_of reg) r)
-    (both (w == width) (read_shows (seat s cpu) x S) (number_tells w width) (read_tells (seat s cpu) x S)))
+    (both (w == width) (read_shows (seat s cpu) x S) (number_tells w width) (read_tells (seat s cpu) x S))))
 fits_tells ps (op.Read cpu reg width into) s _ = nothing
 fits_tells ps (op.Write cpu reg width value) s (say.Write c r w x S) =
-    both (c == cpu) _ (number_tells c cpu)
+    five (both (c == cpu) _ (number_tells c cpu)
     (both (is_register (register_of reg) r) _ (register_tells (register_of reg) r)
     (both (w == width) _ (number_tells w width)
-    (both (x == number s value) (write_shows (seat s cpu) S) (number_tells x (number s value)) (write_tells (seat s cpu) S))))
+    (both (x == number s value) (write_shows (seat s cpu) S) (number_tells x (number s value)) (write_tells (seat s cpu) S)))))
 fits_tells ps (op.Write cpu reg width value) s _ = nothing
 fits_tells ps (op.Start cpu name arg into) s (say.Refuse c cause) = number_tells c cpu
 fits_tells ps (op.Start cpu name arg into) s (say.Start c j p a) = starts_tell ps s cpu name (number s arg) c j p a

@@ -44,3 +44,13 @@ below_tells a b = (λ e. ltb-true a b e, λ e. lt-ltb a b e)
 
 pub at_test : {a b : Bool} {A : Type 0} → a ≡ b → Tells a A → Tells b A
 at_test {A = A} e h = subst (λ (c : Bool). Tells c A) e h
+
+-- more than two facts in a row
+pub three : {b : Bool} {A B C : Type 0} → Tells b (A × (B × C)) → Tells b (A × B × C)
+three h = (λ e. let x = h.0 e in (x.0, x.1.0, x.1.1), λ x. h.1 (x.0, (x.1, x.2)))
+
+pub four : {b : Bool} {A B C D : Type 0} → Tells b (A × (B × (C × D))) → Tells b (A × B × C × D)
+four h = (λ e. let x = h.0 e in (x.0, x.1.0, x.1.1.0, x.1.1.1), λ x. h.1 (x.0, (x.1, (x.2, x.3))))
+
+pub five : {b : Bool} {A B C D E : Type 0} → Tells b (A × (B × (C × (D × E)))) → Tells b (A × B × C × D × E)
+five h = (λ e. let x = h.0 e in (x.0, x.1.0, x.1.1.0, x.1.1.1.0, x.1.1.1.1), λ x. h.1 (x.0, (x.1, (x.2, (x.3, x.4)))))

@@ -1,5 +1,5 @@
 pub mod Writes
-pub mod Kinds
+pub mod ImageKinds
 pub mod Counting
 pub mod Speaking
 pub mod Keeping

@@ -18,7 +18,7 @@ use Rattle.handler_ops.specs.declared.desk.Job.{Job}
 use Rattle.handler_ops.specs.Course.{read_of, write_of, shown_value}
 use Rattle.handler_ops.specs.Procedures.{job_on}
 use Rattle.serving_judge.specs.Words.{is_status}
-use Rattle.serving_judge.proofs.Telling.{Tells, never, nothing, always, both, isnt, along, number_tells, at_test}
+use Rattle.serving_judge.proofs.Telling.{Tells, never, nothing, always, both, three, along, number_tells}
 use Rattle.serving_judge.proofs.Labels.{status_tells}
 use Rattle.rendezvous_machine.specs.declared.phase.Phase.{Phase}
 use Rattle.rendezvous_machine.specs.declared.phase.Phase.TheVariants.{Out, In, Counted, Here, Gone, Off}
@@ -168,8 +168,8 @@ answers_in : (procedures : List ProcedureDef) (image : ImageContents) (o : Optio
     (IsSomeAnd o (λ job. (job.number ≡ j) × (job.done ≡ None) × ((job_on procedures job image).answer ≡ (result, S))))
 answers_in procedures image None j result S = nothing
 answers_in procedures image (Some job) j result S =
-    both (job.number == j) _ (number_tells job.number j)
-    (both (is_none job.done) _ (none_tells job.done) (answer_tells (job_on procedures job image).answer result S))
+    three (both (job.number == j) _ (number_tells job.number j)
+    (both (is_none job.done) _ (none_tells job.done) (answer_tells (job_on procedures job image).answer result S)))
 
 pub answers_tell : (d : SetupData) (x : Member) (j result : ℕ) (S : Status) → Tells (answers d.procedures x j result S) (Answers d x j result S)
 answers_tell d x j result S = answers_in d.procedures x.image x.job j result S

@@ -24,7 +24,7 @@ use Rattle.serving_place.specs.Due.{Due, Nothing, Saying, Awaiting, Doing, due}
 use Rattle.serving_judge.specs.Dues.{start_due}
 use Rattle.serving_judge.specs.Judging.{setting_of}
 use Rattle.serving_judge.specs.Tests.{accepts_own, is_nothing}
-use Rattle.serving_judge.proofs.Telling.{Tells, never, nothing, always, both, either, isnt, along, number_tells, below_tells, at_test}
+use Rattle.serving_judge.proofs.Telling.{Tells, never, nothing, always, both, three, four, either, isnt, along, number_tells, below_tells}
 use Rattle.serving_judge.proofs.Placing.{own_tells, over_tells}
 use Rattle.rendezvous_machine.specs.Platforms.{blocked_in, MayLead}
 use Rattle.rendezvous_machine.specs.Machines.{Machine, member, is_here, is_counted, count_of, IsPhase, IsBsp, IsLed, IsClosed, IsAtWork, HasWaited, AllReported, AllReleased, AllCollected}
@@ -223,44 +223,44 @@ announce_tells d m i = both (i == d.processors) (nat_lt m.waves (length d.waves)
 pub rule_tells : (std : Standing) (d : SetupData) (m : Machine) (i : ℕ) (l : Label) → JobsFit d 0 m → Verdict d m i l
 rule_tells std d m i say.Silent f = always
 rule_tells std d m i (say.Excepted e) f =
-    both (announces (seen d m) i) _ (announce_tells d m i)
-    (both (m.excepted == m.waves) (e == blocked_in d.waves (m.waves + 1)) (number_tells m.excepted m.waves) (number_tells e (blocked_in d.waves (m.waves + 1))))
+    three (both (announces (seen d m) i) _ (announce_tells d m i)
+    (both (m.excepted == m.waves) (e == blocked_in d.waves (m.waves + 1)) (number_tells m.excepted m.waves) (number_tells e (blocked_in d.waves (m.waves + 1)))))
 rule_tells std d m i (say.Wave w) f =
-    both (announces (seen d m) i) _ (announce_tells d m i)
-    (both (m.excepted == m.waves + 1) (w == m.waves + 1) (number_tells m.excepted (m.waves + 1)) (number_tells w (m.waves + 1)))
+    three (both (announces (seen d m) i) _ (announce_tells d m i)
+    (both (m.excepted == m.waves + 1) (w == m.waves + 1) (number_tells m.excepted (m.waves + 1)) (number_tells w (m.waves + 1))))
 rule_tells std d m i say.Enter f =
-    both _ _ (out_tells (member m i).phase)
-    (both (nat_lt (member m i).visits d.visits) (nat_lt 0 m.waves) (below_tells (member m i).visits d.visits) (below_tells 0 m.waves))
+    three (both _ _ (out_tells (member m i).phase)
+    (both (nat_lt (member m i).visits d.visits) (nat_lt 0 m.waves) (below_tells (member m i).visits d.visits) (below_tells 0 m.waves)))
 rule_tells std d m i say.Turn f = both _ _ (in_tells (member m i).phase) (isnt (is_at_work (seen d m)) (work_tells m d))
 rule_tells std d m i say.Arrive f = both _ _ (in_tells (member m i).phase) (isnt (is_closed (seen d m)) (closed_tells m d))
 rule_tells std d m i say.Late f = both _ _ (in_tells (member m i).phase) (closed_tells m d)
 rule_tells std d m i say.Elect f =
-    both _ _ (waiting_tells (member m i).phase)
-    (both (is_none (option_map session_of m.session)) (may_lead d.policy i) (no_session m.session) (lead_tells d.policy i))
+    three (both _ _ (waiting_tells (member m i).phase)
+    (both (is_none (option_map session_of m.session)) (may_lead d.policy i) (no_session m.session) (lead_tells d.policy i)))
 rule_tells std d m i (say.Served w) f =
     leads_tell d m i (λ p s. is_none s.served && w == m.source) (λ s. (s.served ≡ None) × (w ≡ m.source))
     (λ s h. both (is_none s.served) (w == m.source) (none_tells s.served) (number_tells w m.source)) f
 rule_tells std d m i (say.Gather e) f =
     both _ (is_traditional d.mode)
     (leads_tell d m i (λ p s. is_some s.served && (is_none s.gathered && e == m.last_excepted)) (λ s. IsSome s.served × (s.gathered ≡ None) × (e ≡ m.last_excepted))
-    (λ s h. both (is_some s.served) _ (some_tells s.served) (both (is_none s.gathered) (e == m.last_excepted) (none_tells s.gathered) (number_tells e m.last_excepted))) f)
+    (λ s h. three (both (is_some s.served) _ (some_tells s.served) (both (is_none s.gathered) (e == m.last_excepted) (none_tells s.gathered) (number_tells e m.last_excepted)))) f)
     (traditional_tells d.mode)
 rule_tells std d m i (say.Ready n) f =
     both _ (n == count_in m.members)
     (leads_tell d m i (λ p s. not s.is_ready && (nat_le s.expired 1 && are_enough s.gathered n d.processors))
     (λ s. (s.is_ready ≡ false) × (s.expired ≤ 1) × IsSomeAnd s.gathered (λ e. d.processors ≤ n + e))
-    (λ s h. both (not s.is_ready) _ (unset_tells s.is_ready)
-    (both (nat_le s.expired 1) (are_enough s.gathered n d.processors) (at_most_tells s.expired 1) (enough_tells s.gathered n d.processors))) f)
+    (λ s h. three (both (not s.is_ready) _ (unset_tells s.is_ready)
+    (both (nat_le s.expired 1) (are_enough s.gathered n d.processors) (at_most_tells s.expired 1) (enough_tells s.gathered n d.processors)))) f)
     (number_tells n (count_of m))
 rule_tells std d m i (say.Expire k) f =
     leads_tell d m i (λ p s. not s.is_ready && (s.expired + 1 == k && (nat_le k 2 && are_too_few s.gathered (count_in m.members) d.processors)))
     (λ s. (s.is_ready ≡ false) × (s.expired + 1 ≡ k) × (k ≤ 2) × IsSomeAnd s.gathered (λ e. count_of m + e < d.processors))
-    (λ s h. both (not s.is_ready) _ (unset_tells s.is_ready)
+    (λ s h. four (both (not s.is_ready) _ (unset_tells s.is_ready)
     (both (s.expired + 1 == k) _ (number_tells (s.expired + 1) k)
-    (both (nat_le k 2) (are_too_few s.gathered (count_in m.members) d.processors) (at_most_tells k 2) (few_tells s.gathered (count_of m) d.processors)))) f
+    (both (nat_le k 2) (are_too_few s.gathered (count_in m.members) d.processors) (at_most_tells k 2) (few_tells s.gathered (count_of m) d.processors))))) f
 rule_tells std d m i say.Quit f =
-    both _ _ (waiting_tells (member m i).phase)
-    (both (not (is_led (seen d m) i)) (not (is_closed (seen d m))) (isnt (is_led (seen d m) i) (led_tells m d i)) (isnt (is_closed (seen d m)) (closed_tells m d)))
+    three (both _ _ (waiting_tells (member m i).phase)
+    (both (not (is_led (seen d m) i)) (not (is_closed (seen d m))) (isnt (is_led (seen d m) i) (led_tells m d i)) (isnt (is_closed (seen d m)) (closed_tells m d))))
 rule_tells std d m i say.Report f =
     both _ _ (waiting_tells (member m i).phase)
     (any_tells m.session (λ s. not (s.bsp == i)) (λ s. s.bsp ≢ i) (λ s. isnt (s.bsp == i) (number_tells s.bsp i)))
@@ -268,8 +268,8 @@ rule_tells std d m i (say.Close n) f = both _ (n == count_in m.members) (mode_cl
 rule_tells std d m i (say.Begin w) f =
     leads_tell d m i (λ p s. is_wave s.served w && (not s.has_begun && may_begin (seen d m) d.mode s))
     (λ s. (s.served ≡ Some w) × (s.serving ≡ None) × MayBegin m d.mode s)
-    (λ s h. both (is_wave s.served w) _ (wave_tells s.served w)
-    (both (not (is_some s.serving)) _ (unbegun_tells s.serving) (mode_begins d m d.mode s))) f
+    (λ s h. three (both (is_wave s.served w) _ (wave_tells s.served w)
+    (both (not (is_some s.serving)) _ (unbegun_tells s.serving) (mode_begins d m d.mode s)))) f
 rule_tells std d m i (say.Read c register width x S) f =
     both _ _ (goes_tells std d m i (say.Read c register width x S) f) (reads_tell d m i c register width x S)
 rule_tells std d m i (say.Write c register width x S) f =
@@ -278,10 +278,10 @@ rule_tells std d m i (say.Refuse c x) f =
     both_with _ _ (goes_tells std d m i (say.Refuse c x) f)
     (λ h. subst (λ (o : Option StartRefusal). Tells (is_cause (refusal_in (seen d m)) x) (o ≡ Some x)) (refusal_same d m i (say.Refuse c x) h) (cause_tells (refusal_in (seen d m)) x))
 rule_tells std d m i (say.Start c n p a) f =
-    both_with _ _ (goes_tells std d m i (say.Start c n p a) f)
+    three (both_with _ _ (goes_tells std d m i (say.Start c n p a) f)
     (λ h. both (is_none (refusal_in (seen d m))) (is_none (member m c).job)
     (subst (λ (o : Option StartRefusal). Tells (is_none (refusal_in (seen d m))) (o ≡ None)) (refusal_same d m i (say.Start c n p a) h) (none_tells (refusal_in (seen d m))))
-    (none_tells (member m c).job))
+    (none_tells (member m c).job)))
 rule_tells std d m i (say.Run n result S) f = both _ _ (here_tells (member m i).phase) (answers_tell d (member m i) n result S)
 rule_tells std d m i (say.Collect c) f =
     both _ _
@@ -289,19 +289,19 @@ rule_tells std d m i (say.Collect c) f =
     (λ s h. either _ _ (say_tells std d m (say.Collect c) s h) (both _ (is_least m.members c) (end_tells std d m s h) (least_tells m c))) f)
     (finished_tells (member m c))
 rule_tells std d m i say.Done f =
-    both _ _
+    three (both _ _
     (leads_tell d m i (λ p s. not s.is_done && (ends d p s && s.is_closed)) (λ s. (s.is_done ≡ false) × IsServed d m s × (s.is_closed ≡ true))
-    (λ s h. both (not s.is_done) _ (unset_tells s.is_done) (both _ s.is_closed (end_tells std d m s h) (flag_tells s.is_closed))) f)
-    (both _ _ (reported_tells m i) (collected_tells m))
+    (λ s h. three (both (not s.is_done) _ (unset_tells s.is_done) (both _ s.is_closed (end_tells std d m s h) (flag_tells s.is_closed)))) f)
+    (both _ _ (reported_tells m i) (collected_tells m)))
 rule_tells std d m i (say.Release c) f =
-    both _ _ (leads_tell d m i (λ p s. s.is_done) (λ s. s.is_done ≡ true) (λ s h. flag_tells s.is_done) f)
+    four (both _ _ (leads_tell d m i (λ p s. s.is_done) (λ s. s.is_done ≡ true) (λ s h. flag_tells s.is_done) f)
     (both (not (c == i)) _ (isnt (c == i) (number_tells c i))
-    (both (member m c).in_closed_set (not (member m c).is_released) (flag_tells (member m c).in_closed_set) (unset_tells (member m c).is_released)))
+    (both (member m c).in_closed_set (not (member m c).is_released) (flag_tells (member m c).in_closed_set) (unset_tells (member m c).is_released))))
 rule_tells std d m i say.Depart f =
-    both _ _ (here_tells (member m i).phase)
+    three (both _ _ (here_tells (member m i).phase)
     (both _ (member m i).is_released
     (any_tells m.session (λ s. each_other m.members s.bsp is_let) (λ s. AllReleased m s.bsp) (λ s. released_tells m s.bsp))
-    (flag_tells (member m i).is_released))
+    (flag_tells (member m i).is_released)))
 rule_tells std d m i say.End f = both _ _ (leads_tell d m i (λ p s. s.is_done) (λ s. s.is_done ≡ true) (λ s h. flag_tells s.is_done) f) (departed_tells m i)
 rule_tells std d m i (say.Resume how) f = both _ _ (gone_tells (member m i).phase) (after_tells how (after (member m i).image))
 rule_tells std d m i say.Off f =

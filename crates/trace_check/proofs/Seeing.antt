@@ -188,7 +188,7 @@ seen_after d m i say.Turn r h = refl
 seen_after d m i say.Arrive r h = refl
 seen_after d m i say.Late r h = refl
 seen_after d m i say.Elect r h =
-    ap (λ (o : Option machine.Session). with_look (seen d m) (Some (opened i), judging_at d (first_serving d m) o)) (sym r.1.0)
+    ap (λ (o : Option machine.Session). with_look (seen d m) (Some (opened i), judging_at d (first_serving d m) o)) (sym r.1)
 seen_after d m i (say.Served w) r h =
     ap (with_look (record (seen d m) { source = 0 }))
     (changed_rule d (first_serving d m) (jobs_of m) m.session (λ s. (s.bsp ≡ i) × (s.served ≡ None) × (w ≡ m.source)) (serves w)
@@ -208,7 +208,7 @@ seen_after d m i (say.Begin w) r h =
     (changed_rule d (first_serving d m) (jobs_of m) m.session _ (made_begun w) (option_map (changed_by (say.Begin w))) (λ g. said (say.Begin w) (begun i w g))
     (λ s q k. λ t. (
       Some (changed_by (say.Begin w) (session_of s)),
-      begun_is d m.registrations m.pool w s.bsp i s.served s.serving q.0 q.1.0 q.1.1.0 t,
+      begun_is d m.registrations m.pool w s.bsp i s.served s.serving q.0 q.1.0 q.1.1 t,
     )) r h)
 seen_after d m i (say.Read c register width x S) r h = plain d m i (say.Read c register width x S) (seen d m) r.0 h
 seen_after d m i (say.Write c register width x S) r h =

@@ -115,7 +115,7 @@ impl Member {
     }
 
     /// A visit begins: the registers are saved into the image.
-    #[tactic(auto, using(crate::proofs::Kinds::saved_kind))]
+    #[tactic(auto, using(crate::proofs::ImageKinds::saved_kind))]
     pub fn enter(&mut self, cause: &Cause)
         requires { self.old.visits < 2 ^ 32 - 1 }
         ensures { self.new ≡ entered cause.now self.old }
@@ -126,7 +126,7 @@ impl Member {
     }
 
     /// The visit ends: the registers are loaded from the image.
-    #[tactic(auto, using(crate::proofs::Kinds::loaded_kind))]
+    #[tactic(auto, using(crate::proofs::ImageKinds::loaded_kind))]
     pub fn resume(&mut self)
         ensures { self.new ≡ resumed self.old }
     {
@@ -142,7 +142,7 @@ impl Member {
     }
 
     /// A register of the image was written, with this status.
-    #[tactic(auto, using(crate::proofs::Kinds::still_written))]
+    #[tactic(auto, using(crate::proofs::ImageKinds::still_written))]
     pub fn write(&mut self, register: Register, width: u32, value: u64, status: Status)
         ensures { self.new ≡ record self.old { image = written status register width value self.old.image } }
     {
@@ -150,7 +150,7 @@ impl Member {
     }
 
     /// The processor ran its job, with this answer.
-    #[tactic(auto, using(crate::proofs::Kinds::still_worked))]
+    #[tactic(auto, using(crate::proofs::ImageKinds::still_worked))]
     pub fn run(&mut self, setup: &Setup, answer: (u64, Status))
         ensures { self.new ≡ worked (data_of setup.now) answer self.old }
     {
