@@ -1,9 +1,0 @@
-pub mod Writes
-pub mod ImageKinds
-pub mod Counting
-pub mod Speaking
-pub mod Keeping
-pub mod Processors
-pub mod Rules
-pub mod Seeing
-pub mod Checking
