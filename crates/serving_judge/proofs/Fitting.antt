@@ -1,10 +1,9 @@
 -- What a label that is taken wants of the operation that is due, for its change to be made.
 use Rattle.std.proofs.Common.{◌≡◌, ℕ, zero, suc, ◌+◌, Bool, true, false, List, Option, Some, None, Result, Ok, Err, refl, sym, ap, subst, ◌∙◌}
 use Rattle.std.specs.Prelude.{◌==◌, ◌&&◌}
-use Rattle.smm_base.specs.declared.kinds.HandlerType.{HandlerType}
 use Rattle.smm_base.specs.declared.registers.Register.{Register}
 use Rattle.smm_base.specs.declared.status.Status.{Status}
-use Rattle.smm_base.specs.declared.status.Status.TheVariants.{Success, OutOfResources}
+use Rattle.smm_base.specs.declared.status.Status.TheVariants.{Success}
 use Rattle.cpu_table.specs.declared.handlers.OpDef.{OpDef}
 use Rattle.cpu_table.specs.declared.handlers.OpDef.TheVariants as op
 use Rattle.cpu_table.specs.declared.handlers.ProcedureDef.{ProcedureDef}
@@ -12,16 +11,16 @@ use Rattle.sync_words.specs.declared.label.Label.{Label}
 use Rattle.sync_words.specs.declared.label.Label.TheVariants as say
 use Rattle.handler_registry.specs.Registrations.{is_full}
 use Rattle.smram_pool.specs.declared.error.PoolError.{PoolError}
-use Rattle.smram_pool.specs.State.{PoolState, allocated, freed}
+use Rattle.smram_pool.specs.State.{allocated, freed}
 use Rattle.serving_place.specs.Serving.{Serving, seat, number, tokens_out}
-use Rattle.serving_place.specs.Operations.{alloc_label, free_status, procedure_place}
+use Rattle.serving_place.specs.Operations.{alloc_label, free_status}
 use Rattle.serving_place.specs.Due.{Due, Nothing, Saying, Awaiting, Doing}
-use Rattle.serving_place.specs.Sayings.{SayingFits, Fits, RegisterFits, label_in, operation_due}
+use Rattle.serving_place.specs.Sayings.{Fits, RegisterFits, label_in, operation_due}
 use Rattle.serving_judge.specs.Words.{is_collect, is_label}
-use Rattle.serving_judge.specs.Tests.{has_ended, alloc_shows, register_shows, starts, does, takes}
-use Rattle.serving_judge.specs.Dues.{HasTokenRoom, saying_of, width_of, width_due}
+use Rattle.serving_judge.specs.Tests.{has_ended, alloc_shows, register_shows, does, takes}
+use Rattle.serving_judge.specs.Dues.{HasTokenRoom, saying_of, width_due}
 use Rattle.serving_judge.proofs.Telling.{both, number_tells}
-use Rattle.serving_judge.proofs.Labels.{status_tells, spent_tells, begin_tells, manage_tells, call_tells, return_tells, answer_tells, collect_tells}
+use Rattle.serving_judge.proofs.Labels.{spent_tells, begin_tells, manage_tells, call_tells, return_tells, answer_tells, collect_tells}
 use Rattle.serving_judge.proofs.Operating.{fits_tells, alloc_tells, register_shown, starts_tell}
 
 -- the label fits, and is what is said

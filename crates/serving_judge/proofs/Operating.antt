@@ -1,6 +1,6 @@
 -- Each test of an operation's label tells that the label fits.
 use Rattle.std.proofs.Common.{◌≡◌, ◌≢◌, ◌<◌, ℕ, zero, suc, ◌+◌, Bool, true, false, List, length, Option, Some, None, Result, Ok, Err, refl, ap}
-use Rattle.std.specs.Prelude.{◌==◌, nat_lt, ◌&&◌, not, slice_index_or}
+use Rattle.std.specs.Prelude.{◌==◌, nat_lt, ◌&&◌, not}
 use Rattle.smm_base.specs.declared.kinds.HandlerType.{HandlerType}
 use Rattle.smm_base.specs.declared.status.Status.{Status}
 use Rattle.smm_base.specs.declared.status.Status.TheVariants.{Success, InvalidParameter, NotReady, OutOfResources}
@@ -22,7 +22,7 @@ use Rattle.serving_place.specs.declared.token.TokenState.TheVariants.{NotOut, Un
 use Rattle.serving_place.specs.Operations.{register_of, pool_status, free_status, unregister_status, procedure_place, ReadShows, WriteShows, CheckShows, WaitShows, AllocShows, RegisterShows, Starts, Fits, Collects}
 use Rattle.serving_place.specs.Places.{MayOpen, MayOperate, MayDo}
 use Rattle.serving_judge.specs.Words.{is_status, is_register}
-use Rattle.serving_judge.specs.Tests.{is_free, is_done, has_ended, has_open, is_out_on, read_shows, write_shows, check_shows, wait_shows, alloc_shows, register_shows, is_place, starts, fits_read, fits_write, fits_start, fits_check, fits_wait, fits_alloc, fits_free, fits_unregister, fits, collects, opens, operates, does}
+use Rattle.serving_judge.specs.Tests.{is_free, is_done, has_ended, has_open, is_out_on, read_shows, write_shows, check_shows, wait_shows, alloc_shows, register_shows, is_place, starts, fits_write, fits_start, fits_check, fits_wait, fits_alloc, fits_free, fits_unregister, fits, collects, opens, operates, does}
 use Rattle.serving_judge.proofs.Telling.{Tells, never, nothing, always, both, four, five, isnt, along, number_tells, below_tells}
 use Rattle.serving_judge.proofs.Labels.{status_tells, register_tells, deep_tells, manage_tells}
 

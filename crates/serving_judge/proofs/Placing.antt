@@ -1,5 +1,5 @@
 -- What the test of a place takes is what the place takes.
-use Rattle.std.proofs.Common.{◌≡◌, ℕ, zero, suc, Bool, true, false, List, [], ◌∷◌, Option, Some, None, refl, sym}
+use Rattle.std.proofs.Common.{◌≡◌, ℕ, zero, suc, Bool, true, false, List, [], ◌∷◌, Option, Some, None, refl}
 use Rattle.std.specs.Prelude.{◌&&◌, not}
 use Rattle.smm_base.specs.declared.kinds.HandlerType.{HandlerType}
 use Rattle.cpu_table.specs.declared.handlers.OpDef.{OpDef}
@@ -17,7 +17,7 @@ use Rattle.serving_place.specs.Places.{Place, OpenWalk, Call, Begun, First, Star
 use Rattle.serving_place.specs.Due.{Due, Nothing, Saying, Awaiting, Doing, due, due_left, due_turn, due_turns, due_in_call, due_in_walk, due_in_walks, due_begun}
 use Rattle.serving_judge.specs.Words.{is_collect}
 use Rattle.serving_judge.specs.Tests.{has_ended, has_open, takes, accepts_own, is_nothing, accepts_run}
-use Rattle.serving_judge.proofs.Telling.{Tells, nothing, always, both, isnt, at_test}
+use Rattle.serving_judge.proofs.Telling.{Tells, nothing, always, both, at_test}
 use Rattle.serving_judge.proofs.Labels.{spent_tells, begin_tells, manage_tells, call_tells, return_tells, answer_tells, collect_tells}
 use Rattle.serving_judge.proofs.Operating.{ended_tells, open_tells, does_tells, does_less}
 

@@ -1,5 +1,5 @@
 -- A label that is taken is said, and the place after it keeps what a place keeps.
-use Rattle.std.proofs.Common.{◌≡◌, ℕ, true, Option, Some, None, refl, sym, subst}
+use Rattle.std.proofs.Common.{◌≡◌, ℕ, true, Option, Some, None}
 use Rattle.smm_base.specs.declared.status.Status.{Status}
 use Rattle.cpu_table.specs.declared.handlers.OpDef.{OpDef}
 use Rattle.sync_words.specs.declared.label.Label.{Label}
@@ -13,7 +13,7 @@ use Rattle.serving_place.specs.Sayings.{Fits, label_in, operation_due}
 use Rattle.serving_place.proofs.Going.{JobDue, next_goes, ran_goes}
 use Rattle.serving_judge.specs.Tests.{accepts_own}
 use Rattle.serving_judge.specs.Dues.{HasTokenRoom, saying_of}
-use Rattle.serving_judge.proofs.Fitting.{IsSaid, is_said}
+use Rattle.serving_judge.proofs.Fitting.{is_said}
 
 pub fits_now : (program : Program) (p : Place) (l : Label) → accepts_own program p l ≡ true → HasTokenRoom l (operation_due (due program p)) (tokens_out p.state)
     → Fits (saying_of l) (operation_due (due program p)) p.state

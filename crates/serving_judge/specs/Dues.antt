@@ -1,5 +1,5 @@
 -- What is due, as the code tells it, and what a rule asks of it beside the label.
-use Rattle.std.specs.Prelude.{◌<◌, ℕ, Bool, true, false, Option, Some, None, slice_get}
+use Rattle.std.specs.Prelude.{◌<◌, ℕ, true, false, Option, Some, None, slice_get}
 use Rattle.cpu_table.specs.declared.handlers.OpDef.{OpDef}
 use Rattle.cpu_table.specs.declared.handlers.OpDef.TheVariants as op
 use Rattle.sync_words.specs.declared.label.Label.{Label}

@@ -1,5 +1,5 @@
 -- The label is said, and the place goes on.
-use Rattle.std.proofs.Common.{◌≡◌, ◌≤◌, ℕ, true, vec_capacity, sym, ap, subst, ◌∙◌}
+use Rattle.std.proofs.Common.{◌≡◌, ◌≤◌, ℕ, true, sym, ap, subst, ◌∙◌}
 use Rattle.cpu_table.specs.Data.{data_of}
 use Rattle.sync_words.specs.declared.label.Label.{Label}
 use Rattle.serving_place.specs.declared.progress.Progress.{Progress}
