@@ -55,9 +55,9 @@ def of_case(case):
     return platform, read_images(files[1]), world
 
 
-def random_platform(draw):
+def random_platform(draw, most=MOST_PROCESSORS):
     """A right platform of any kind as a tree of values."""
-    n = draw.randint(1, MOST_PROCESSORS) if draw.random() < 0.4 else draw.randint(1, 4)
+    n = draw.randint(1, most) if draw.random() < 0.4 else draw.randint(1, 4)
     visits = draw.choice([1, 2, 2, 3, 4])
     tree = {"version": 1, "processors": n, "map": draw.choice(["intel64", "ia32"]), "policy": "elected", "mode": "traditional",
             "polls": [draw.choice([1, 2, 3, 8]), draw.choice([1, 2, 3, 8])], "visits": visits,
