@@ -71,6 +71,12 @@ class World:
     def is_complete(self):
         return not any(self.wanted)
 
+    def finish(self):
+        """Steps the actors one after another, again and again, until all are off."""
+        while not self.is_complete():
+            for actor in range(len(self.actors)):
+                self.step(actor)
+
     def labels(self):
         """The actors and labels of the events without the silent ones."""
         return [(event[0], event[4]) for event in self.events if event[4] != SILENT]
