@@ -361,7 +361,8 @@ CHANGES = {
         '        yield from self.lower("AwaitDismissed", len(released))\n', ''),
     "desks of the closed set": Change(
         "TakeDesk: only the desks of processors with a lower number are taken",
-        '        for j in self.others():\n            if j not in self.held and', '        for j in range(self.number):\n            if j not in self.held and'),
+        '        for j in self.others():\n            if j not in self.held and',
+        '        for j in range(self.number):\n            if j not in self.held and'),
 }
 
 
