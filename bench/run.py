@@ -1,15 +1,24 @@
 #!/usr/bin/env python3
 """Times the proved program on large inputs, and the plain simulator of reference/ beside it on the same files.
 
-Use: bench/run.py [--quick], after the program was built (run smmplay once). It needs Python 3.11 on Linux.
+    bench/run.py [--quick] [PART ..]
+
+Run smmplay once before, so that the program is there. It needs Python 3.11 on Linux. The parts are growth, many, large,
+long, busy, shares, profile and judging, and simulator; without a word all of them are played.
 
 A time is the least wall time of some turns of the whole command, with its start, its files and its report. A peak of
 memory is the system's own count (the greatest resident set, by /usr/bin/time; where that isn't there, the greatest that
 was seen while the program ran). The time and the memory of an event are those of a run with many events less those of
 a run with few, divided by the events that are more. Nothing is said of what an entry of a schedule costs that makes
 no event: its actor waits or is off, and mostly its text is all the work.
+
+The shares of one run are those of four, in processor time: one whose schedule is refused at its last item has read all
+files and no more; one whose first write fails (/dev/full) has also stepped; one to /dev/null has also printed; one to a
+file has also written.
+Where `perf` runs, the functions in which most of the time goes are told too.
 """
 import pathlib
+import resource
 import shutil
 import subprocess
 import sys
@@ -17,7 +26,7 @@ import tempfile
 import time
 from dataclasses import dataclass
 
-from make_inputs import ACTORS, LOOKS, MANY
+from make_inputs import ACTORS, LONG, LOOKS, MANY
 
 HERE = pathlib.Path(__file__).resolve().parent
 OUT = HERE.parent / "crates" / "smmplay" / "out"
@@ -25,6 +34,13 @@ SIMULATOR = [sys.executable, str(HERE.parent / "reference" / "smmplay.py")]
 TIMER = shutil.which("time")
 # so many events more, and what they cost stands out of the noise
 ENOUGH = 4000
+# large runs, by what they are: the platform and its schedule, and the images
+LARGE = {
+    f"64 processors that wait in vain, {LONG[-1]} waves": (f"long_{LONG[-1]}", "full.smi"),
+    "8 processors with jobs": ("jobs", "images_8.smi"),
+    "one processor, 4096 units a session": ("serving", "one.smi"),
+}
+LEAST_SHARE = 2
 
 
 @dataclass
@@ -60,9 +76,9 @@ def peak_of(command, folder):
     return peak
 
 
-def timed(command, folder):
+def timed(command, folder, output=None):
     """Seconds and status of one run, whose report goes to a file."""
-    with open(folder / "report.txt", "wb") as report:
+    with open(output or folder / "report.txt", "wb") as report:
         begin = time.perf_counter()
         done = subprocess.run(command, cwd=folder, stdout=report)
     return time.perf_counter() - begin, done.returncode
@@ -70,7 +86,7 @@ def timed(command, folder):
 
 def measure_all(program, inputs, folder, turns):
     """A run of each input. The turns go round the inputs, so that what else the machine does falls on all alike."""
-    commands = [[*program, "step", *words, "after.smi"] for words in inputs]
+    commands = [step_of(program, *words) for words in inputs]
     rounds = [[timed(command, folder) for command in commands] for _ in range(turns)]
     runs = []
     for command, turns_of_one in zip(commands, zip(*rounds)):
@@ -78,6 +94,18 @@ def measure_all(program, inputs, folder, turns):
         least = min(seconds for seconds, _ in turns_of_one)
         runs.append(Run(least, peak, turns_of_one[0][1], events_of(folder / "report.txt")))
     return runs
+
+
+def busy_seconds(command, folder, output):
+    """The processor time of one run, its own and the system's for it."""
+    before = resource.getrusage(resource.RUSAGE_CHILDREN)
+    timed(command, folder, output)
+    after = resource.getrusage(resource.RUSAGE_CHILDREN)
+    return after.ru_utime + after.ru_stime - before.ru_utime - before.ru_stime
+
+
+def step_of(program, platform, images, schedule):
+    return [*program, "step", platform, images, schedule, "after.smi"]
 
 
 def events_of(report):
@@ -130,21 +158,111 @@ def large_files(player, program, folder, turns):
         row(name, player, run)
 
 
+def long_rounds(player, program, folder, turns):
+    """Half a million events, twice as many and so on: each event more must cost the same."""
+    inputs = [[f"long_{waves}.toml", "full.smi", f"long_{waves}.txt"] for waves in LONG]
+    runs = measure_all(program, inputs, folder, few_turns(turns))
+    for waves, run in zip(LONG, runs):
+        row(f"64 processors that wait in vain, {waves} waves", player, run, per_event(run, runs[0]))
+
+
+def busy(player, program, folder, turns):
+    """Jobs and long serving; the few events are those of an empty schedule."""
+    (folder / "empty.txt").write_text("")
+    for name, (stem, images) in list(LARGE.items())[1:]:
+        inputs = [[f"{stem}.toml", images, "empty.txt"], [f"{stem}.toml", images, f"{stem}.txt"]]
+        few, run = measure_all(program, inputs, folder, few_turns(turns))
+        row(name, player, run, per_event(run, few))
+
+
+def few_turns(turns):
+    """Of a large run fewer turns are enough."""
+    return max(1, turns // 8)
+
+
+def shares(player, program, folder, turns):
+    """How the processor time of a large run is divided. The simulator prints all before it writes, so it has no shares."""
+    print("| input | player | events | reading | stepping | printing | writing |\n|---|---|---|---|---|---|---|")
+    for name, (stem, images) in LARGE.items():
+        step = step_of(program, f"{stem}.toml", images, f"{stem}.txt")
+        refused = step_of(program, f"{stem}.toml", images, f"{stem}_refused.txt")
+        ways = [(refused, None), (step, "/dev/full"), (step, "/dev/null"), (step, None)]
+        rounds = [[busy_seconds(command, folder, output) for command, output in ways] for _ in range(few_turns(turns))]
+        least, events = list(map(min, zip(*rounds))), events_of(folder / "report.txt")
+        parts = [least[0]] + [max(0.0, after - before) for before, after in zip(least, least[1:])]
+        told = [f"{part * 1000:.1f} ms, {part / least[-1] * 100:.0f} %, {part / events * 1e9:.0f} ns an event" for part in parts]
+        print(f"| {name} | {player} | {events} | {' | '.join(told)} |", flush=True)
+
+
+def profile(player, program, folder, turns):
+    """The functions in which most of the time of a large run goes, by `perf`."""
+    if not shutil.which("perf"):
+        print("no perf")
+        return
+    for name, (stem, images) in LARGE.items():
+        data, step = str(folder / "perf.data"), step_of(program, f"{stem}.toml", images, f"{stem}.txt")
+        with open(folder / "report.txt", "wb") as report:
+            record = subprocess.run(["perf", "record", "-q", "-F", "997", "-o", data, *step], cwd=folder, stdout=report, stderr=subprocess.PIPE)
+        told = subprocess.run(["perf", "report", "-q", "--stdio", "--no-children", "--fields", "overhead,symbol", "-i", data], text=True, capture_output=True)
+        if record.returncode or told.returncode:
+            print(f"perf doesn't run here: {(record.stderr.decode() + told.stderr)[:200]}")
+            return
+        print(f"{name}, {player}: " + "; ".join(most_used(told.stdout)), flush=True)
+
+
+def most_used(report):
+    """The functions of a perf report that have more than a small share."""
+    rows = [line.split(maxsplit=1) for line in report.splitlines() if "%" in line]
+    return [f"{share} {symbol.strip()}" for share, symbol in rows if float(share.rstrip("%")) >= LEAST_SHARE]
+
+
+def judging(player, program, folder, turns):
+    """`check` of the largest report and `sum`, where the program has these commands."""
+    stem, images = f"long_{LONG[-1]}", "full.smi"
+    timed(step_of(program, f"{stem}.toml", images, f"{stem}.txt"), folder, folder / "trace.txt")
+    events = events_of(folder / "trace.txt")
+    commands = {"check of this report": [*program, "check", f"{stem}.toml", images, "trace.txt"], "sum 1 64": [*program, "sum", "1", "64"]}
+    for name, command in commands.items():
+        runs = [timed(command, folder) for _ in range(few_turns(turns))]
+        least, status = min(runs)[0], runs[0][1]
+        if status == 1:
+            continue
+        made = events if "check" in command else events_of(folder / "report.txt")
+        row(name, player, Run(least, peak_of(command, folder), status, made), f"{least / max(1, made) * 1e9:.0f} ns an event")
+
+
+PARTS = {"growth": growth, "many": many_processors, "large": large_files, "long": long_rounds, "busy": busy, "judging": judging,
+         "shares": shares, "profile": profile}
+
+
+def simulated(folder, wanted, turns):
+    """The simulator on the same files; the large ones once."""
+    for name in ("growth", "many"):
+        if name in wanted:
+            PARTS[name]("simulator", SIMULATOR, folder, max(5, turns // 4))
+    for name in ("long", "busy", "judging"):
+        if name in wanted:
+            PARTS[name]("simulator", SIMULATOR, folder, 1)
+
+
 def main():
+    words = [word for word in sys.argv[1:] if word != "--quick"]
+    if set(words) - {*PARTS, "simulator"}:
+        sys.exit(__doc__)
     players = [("smmplay, LLVM", [str(OUT / "smmplay")]), ("smmplay, Rattle's compiler", [str(OUT / "smmplay.by-rattle")])]
-    players = [(name, words) for name, words in players if pathlib.Path(words[0]).is_file()]
-    if not players:
+    players = [(name, path) for name, path in players if pathlib.Path(path[0]).is_file()]
+    if not players and "simulator" not in words:
         sys.exit("build the program first: run ./smmplay once")
-    turns = 5 if "--quick" in sys.argv else 40
-    print("| input | player | status | events | time | peak | each event more |\n|---|---|---|---|---|---|---|")
+    turns, wanted = 5 if "--quick" in sys.argv else 40, [part for part in PARTS if part in words or not set(words) - {"simulator"}]
     with tempfile.TemporaryDirectory() as name:
         folder = pathlib.Path(name)
         subprocess.run([sys.executable, str(HERE / "make_inputs.py"), name], check=True)
+        print("| input | player | status | events | time | peak | each event more |\n|---|---|---|---|---|---|---|", flush=True)
         for player, program in players:
-            for part in (growth, many_processors, large_files):
-                part(player, program, folder, turns)
-        for part in (growth, many_processors):
-            part("simulator", SIMULATOR, folder, max(5, turns // 4))
+            for part in wanted:
+                PARTS[part](player, program, folder, turns)
+        if "simulator" in words or not words:
+            simulated(folder, wanted, turns)
 
 
 if __name__ == "__main__":

@@ -88,6 +88,8 @@ class Machine:
     def accept(self, actor, label):
         word, *parts = label.split(":")
         rule = RULES[word]
+        if actor == self.platform.processors and word not in ("excepted", "wave"):
+            raise Broken(rule)
         if 15 < rule < 23 or rule == 25:
             holds = self.serve(actor, label)
         else:

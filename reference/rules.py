@@ -4,9 +4,10 @@
     reference/rules.py              the cases' replays and 2000 random ones
     reference/rules.py N SEED       N random ones, of another seed
 
-Each replay is of the whole protocol, with 1 to 17 processors: its labels must be a run of the machine. Of each some changed
-lists are made, where a label is left out, stands twice, changes places with the next one, or has another number. A
-changed list may still be a run; but of each of the 31 rules some changed list must break it.
+Each replay is of the whole protocol, with 1 to 17 processors: its labels must be a run of the machine, and `check` must
+say so of its report. Of each some changed lists are made, where a label is left out, stands twice, changes places with
+the next one, or has another number. A changed list may still be a run; but of each of the 31 rules some changed list
+must break it.
 
 A line tells of each list that should be a run and isn't, and one of each rule. The last line has the counts; the exit
 status is 0 only where all runs are runs and each rule was broken.
@@ -23,10 +24,11 @@ sys.path += [str(HERE), str(HERE.parent / "cases")]
 import random_cases  # noqa: E402
 from images import ImagesFault, read_images  # noqa: E402
 from layout import RelocationFault  # noqa: E402
-from machine import RULES, first_broken  # noqa: E402
+from machine import RULES, Machine, first_broken  # noqa: E402
 from platform_file import PlatformFault, read_platform  # noqa: E402
 from protocol import replay  # noqa: E402
 from reading import folder_cases  # noqa: E402
+from reports import judge, report_of  # noqa: E402
 from schedule import ScheduleFault, read_schedule  # noqa: E402
 
 MOST_PROCESSORS, CHANGES = 17, 60
@@ -55,9 +57,9 @@ def of_case(case):
     return platform, read_images(files[1]), world
 
 
-def random_platform(draw):
+def random_platform(draw, most=MOST_PROCESSORS):
     """A right platform of any kind as a tree of values."""
-    n = draw.randint(1, MOST_PROCESSORS) if draw.random() < 0.4 else draw.randint(1, 4)
+    n = draw.randint(1, most) if draw.random() < 0.4 else draw.randint(1, 4)
     visits = draw.choice([1, 2, 2, 3, 4])
     tree = {"version": 1, "processors": n, "map": draw.choice(["intel64", "ia32"]), "policy": "elected", "mode": "traditional",
             "polls": [draw.choice([1, 2, 3, 8]), draw.choice([1, 2, 3, 8])], "visits": visits,
@@ -130,6 +132,8 @@ def judged(name, played, draw):
         return f"{name}: label {broken[0] + 1}, {labels[broken[0]]}, breaks rule {broken[1]}", 0, broken_rules
     if any(one.data != other.data for one, other in zip(after.resumed, world.resumed)):
         return f"{name}: an image after isn't the machine's last resumed one", 0, broken_rules
+    if wrong := judge(Machine(platform, images), report_of(world).encode(), platform.processors):
+        return f"{name}: check says {wrong}", 0, broken_rules
     tried = CHANGES if labels else 0
     for _ in range(tried):
         broken, _ = first_broken(platform, images, changed(draw, labels))

@@ -296,13 +296,13 @@ class Server:
     def give(self, cpu, place, argument, with_token):
         """Gives a processor whose desk is held a job."""
         yield f"busy{cpu}", ("put", 1)
+        yield f"run{cpu}", ("up",)
         self.given += 1
         job = Job(self.given, cpu, self.platform.procedures[place], argument)
         self.bsp.held.discard(cpu)
         self.jobs[cpu] = self.world.processors[cpu].job = job
         if with_token:
             self.tokens[job.number] = job
-        yield f"run{cpu}", ("up",)
         self.say(f"start:{cpu}:{job.number}:{place}:{argument}")
         return job
 

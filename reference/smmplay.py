@@ -1,19 +1,31 @@
 #!/usr/bin/env python3
-"""The command, as a plain simulator: `smmplay.py step PLATFORM IMAGES SCHEDULE AFTER`.
+"""The command, as a plain simulator.
+
+    smmplay.py step PLATFORM IMAGES SCHEDULE AFTER
+    smmplay.py finish PLATFORM IMAGES SCHEDULE AFTER
+    smmplay.py check PLATFORM IMAGES TRACE
+    smmplay.py make NUMBER N
+    smmplay.py sum NUMBER N
 
 It answers as the proved program `smmplay` does: the same report or fault line, status and images after.
 """
 import os
 import sys
 
+from generator import generated_schedule, generated_text, start_images
 from images import ImagesFault, read_images, write_images
 from layout import RelocationFault
+from machine import Machine
 from platform_file import PlatformFault, read_platform
 from protocol import replay
+from reports import is_number, judge, last_line, report_of
 from schedule import ScheduleFault, read_schedule
-from words import access_text
 
-PLATFORM_LIMIT, IMAGES_LIMIT, SCHEDULE_LIMIT = 1_048_576, 65_548, 4_194_304
+PLATFORM_LIMIT, IMAGES_LIMIT, SCHEDULE_LIMIT, TRACE_LIMIT = 1_048_576, 65_548, 4_194_304, 536_870_912
+MOST_SEED, MOST_PROCESSORS = 4_294_967_295, 64
+
+# The commands and how many words each has.
+COMMANDS = {"step": 5, "finish": 5, "check": 4, "make": 3, "sum": 3}
 
 
 class Fault(Exception):
@@ -33,23 +45,6 @@ def load(name, limit):
     if len(data) > limit:
         raise Fault(6, f"too-long {name} {limit}")
     return data
-
-
-def event_line(event, processors):
-    """`ACTOR WORD ACCESS FOUND LABEL`."""
-    actor, word, access, found, label = event
-    return f"{'chip' if actor == processors else f'p{actor}'} {word} {access_text(access)} {found} {label}\n"
-
-
-def report_of(world):
-    """The lines of the events and the last line."""
-    labels = [label for _, label in world.labels()]
-    waves = sum(label.startswith("wave:") for label in labels)
-    served = sum(label.startswith("served:") and label != "served:0" for label in labels)
-    lines = [event_line(event, world.platform.processors) for event in world.events]
-    first = "complete" if world.is_complete() else "unfinished"
-    end = f"{first} events {len(lines)} sessions {labels.count('end')} unserved {waves - served}\n"
-    return "".join(lines) + end
 
 
 def load_platform(name):
@@ -90,27 +85,70 @@ def is_name(word):
     return not word.startswith("-")
 
 
+def is_command(words):
+    """Are the words of a command's form?"""
+    if not words or len(words) != COMMANDS.get(words[0]) or not all(map(is_name, words)):
+        return False
+    return words[0] not in ("make", "sum") or (is_number(words[1], MOST_SEED) and is_number(words[2], MOST_PROCESSORS) and words[2] != "0")
+
+
 def world_of(words):
-    """The world that a command of the right form leaves."""
-    if len(words) != 5 or words[0] != "step" or not all(map(is_name, words)):
+    """The world that `step` or `finish` leaves."""
+    if not is_command(words) or words[0] not in ("step", "finish"):
         raise Fault(1, "usage")
     names = words[1:]
     platform = load_platform(names[0])
     images = load_images(names[1], platform)
     schedule = load_schedule(names[2], platform)
     try:
-        return replay(platform, images, schedule)
+        world = replay(platform, images, schedule)
     except RelocationFault as fault:
         raise Fault(3, f"images {fault}") from None
+    if words[0] == "finish":
+        world.finish()
+    return world
+
+
+def check(names):
+    """Judges a report. Where it is a run, what is written."""
+    platform = load_platform(names[0])
+    images = load_images(names[1], platform)
+    data = load(names[2], TRACE_LIMIT)
+    try:
+        machine = Machine(platform, images)
+    except RelocationFault as fault:
+        raise Fault(3, f"images {fault}") from None
+    wrong = judge(machine, data, platform.processors)
+    if wrong:
+        raise Fault(5, f"trace {wrong}")
+    return "run\n"
+
+
+def sum_of(seed, processors):
+    """The last line of the generated platform's report."""
+    platform = read_platform(generated_text(seed, processors).encode())
+    return last_line(replay(platform, start_images(processors), generated_schedule(processors)))
+
+
+def played(words):
+    """What a command of the right form writes, and the file that it saves under its last word, or None."""
+    if words[0] == "check":
+        return check(words[1:]), None
+    if words[0] in ("make", "sum"):
+        work = generated_text if words[0] == "make" else sum_of
+        return work(int(words[1]), int(words[2])), None
+    world = world_of(words)
+    return report_of(world), write_images(world.resumed)
 
 
 def play(words):
     """The status of a command, what it writes, and the file that it saves under its last word, or None."""
     try:
-        world = world_of(words)
+        if not is_command(words):
+            raise Fault(1, "usage")
+        return 0, *played(words)
     except Fault as fault:
         return fault.status, f"fault {fault.line}\n", None
-    return 0, report_of(world), write_images(world.resumed)
 
 
 def command(words, write):
