@@ -56,7 +56,7 @@ def wait(token):
     return f'{{op = "wait", token = "v{token}", into = "v0"}}'
 
 
-# seven launches and seven waits, four times over, and seven starts: 63 operations, with the call 64 units
+# seven launches and seven waits, four times over, and seven starts: 63 operations, and with the handler's call that makes 64 units
 JOBS = ([job("launch", cpu, cpu) for cpu in range(1, 8)] + [wait(cpu) for cpu in range(1, 8)]) * 4 + [job("start", cpu, 0) for cpu in range(1, 8)]
 # 63 operations that need no other processor
 ALONE = [
