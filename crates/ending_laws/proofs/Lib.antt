@@ -1,0 +1,9 @@
+pub mod Waits
+pub mod Halts
+pub mod Owed
+pub mod Leaders
+pub mod Parts
+pub mod Steady
+pub mod Steps
+pub mod Sessions
+pub mod NeverStuck
