@@ -15,7 +15,7 @@ abbrev pub Reading : Type 0 → Type 0
 Reading A = Result A WalkFault
 
 -- a second step works on what the first one read
-abbrev pub read_then : {A B : Type 0} → Reading A → (A → Reading B) → Reading B
+abbrev pub read_then : {A B E : Type 0} → Result A E → (A → Result B E) → Result B E
 read_then (Ok found) next = next found
 read_then (Err fault) next = Err fault
 

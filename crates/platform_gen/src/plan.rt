@@ -1,4 +1,4 @@
-ghost use Rattle.std.specs.Prelude.{◌≡◌, ◌≤◌, IfOk, OnOk, length};
+ghost use Rattle.std.specs.Prelude.{◌≡◌, ◌≤◌, IfOk, OnOk};
 ghost use Rattle.platform_gen.specs.Draws.{state_after};
 ghost use Rattle.platform_gen.specs.Plans.{PlanFits, arrival_by_bits, arrival_by, generated_plan, mode_by, plan_from, statuses_from, writes_from, writes_of};
 

@@ -1,7 +1,6 @@
-ghost use Rattle.std.specs.Prelude.{◌≡◌, ◌∷◌, ◌≤◌, [], All, IfOk, IsTrue, ◌<◌, eqb, length, map};
-ghost use Rattle.std.specs.List.{IsDistinct, list_all, range_with_len};
+ghost use Rattle.std.specs.Prelude.{◌≡◌, ◌∷◌, ◌≤◌, [], All, IfOk, ◌<◌, eqb, map};
+ghost use Rattle.std.specs.List.{IsDistinct, range_with_len};
 ghost use Rattle.cpu_table.specs.Data.{data_of};
-ghost use Rattle.cpu_table.specs.Ranges.{handlers_fit, op_fits, waves_fit};
 ghost use Rattle.platform_gen.specs.Plans.{PlanFits, handler_of, op_of, setup_of, wave_of};
 
 use crate::plan::{Plan, RaxWrite};

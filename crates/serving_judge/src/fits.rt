@@ -1,6 +1,5 @@
-ghost use Rattle.std.specs.Prelude.{◌≡◌, ◌≤◌, length};
+ghost use Rattle.std.specs.Prelude.{◌≡◌, ◌≤◌};
 ghost use Rattle.handler_registry.specs.Registrations.{is_full, is_live};
-ghost use Rattle.smram_pool.specs.State.{allocated, freed};
 ghost use Rattle.serving_place.specs.Serving.{seat, token_of};
 ghost use Rattle.serving_place.specs.Operations.{free_status, unregister_status};
 ghost use Rattle.serving_judge.specs.Tests.{is_free, is_done, has_ended, has_open, is_out_on, read_shows, write_shows, check_shows, wait_shows, alloc_shows, register_shows, is_place, starts, fits_set, fits_read, fits_write, fits_start, fits_check, fits_wait, fits_alloc, fits_free, fits_register, fits_unregister};

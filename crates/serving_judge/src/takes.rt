@@ -1,7 +1,6 @@
 ghost use Rattle.std.specs.Prelude.{◌≡◌};
 ghost use Rattle.serving_place.specs.Due.{due};
 ghost use Rattle.serving_place.specs.Progresses.{program_in, place_in, setting_in};
-ghost use Rattle.serving_place.specs.Places.{levels_left};
 ghost use Rattle.serving_place.specs.Operations.{procedure_place};
 ghost use Rattle.serving_place.specs.Serving.{number};
 ghost use Rattle.serving_place.specs.Setting.{first_cause};

@@ -1,5 +1,4 @@
 ghost use Rattle.std.specs.Prelude.{◌≡◌, ◌==◌, ◌+◌, ◌-◌, ◌^◌, ◌≤◌, [], IfOk, IsOk, min};
-ghost use Rattle.std.specs.List.{list_any};
 
 use crate::{NoMemory, Sink, WriteError};
 use std::alloc::Global;

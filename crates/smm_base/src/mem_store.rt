@@ -1,5 +1,4 @@
-ghost use Rattle.std.specs.Prelude.{◌≡◌, ◌==◌, ◌≢◌, ℕ, ◌+◌, ◌-◌, ◌^◌, [], List, None, Option, IfOk, IsOk, OnErr, OnOk, min, option_copied};
-ghost use Rattle.std.specs.List.{list_any};
+ghost use Rattle.std.specs.Prelude.{◌≡◌, ◌==◌, ◌≢◌, ℕ, ◌+◌, ◌-◌, ◌^◌, [], List, None, Option, IfOk, IsOk, OnErr, OnOk, option_copied};
 
 use crate::{LoadError, NoMemory, SaveError, Store};
 use std::alloc::Global;

@@ -1,9 +1,7 @@
 ghost use Rattle.std.specs.Prelude.{◌≡◌};
-ghost use Rattle.std.specs.Option.{option_map};
-ghost use Rattle.sync_words.specs.Texts.{colon};
 ghost use Rattle.sync_words.specs.declared.access.Access.TheVariants as access;
 ghost use Rattle.sync_words.specs.declared.access.TheConstants.{LOCKED as locked};
-ghost use Rattle.trace_text.specs.Readings.{middle, pair_at, bare_access, numbered_access, access_of, has_up_to};
+ghost use Rattle.trace_text.specs.Readings.{bare_access, numbered_access, access_of, has_up_to};
 
 use crate::field::Field;
 use crate::split::split_at_colon;

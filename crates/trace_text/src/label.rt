@@ -1,4 +1,4 @@
-ghost use Rattle.std.specs.Prelude.{◌≡◌, nat_le, ◌&&◌};
+ghost use Rattle.std.specs.Prelude.{◌≡◌, ◌&&◌};
 ghost use Rattle.trace_text.specs.Readings.{round_of, variable_of, set_of, read_of, write_of, alloc_of, free_of, register_of, unregister_of, check_of, wait_of, refuse_of, start_of, run_of, return_of, bare_label, service_label, procedure_label, walk_label, session_label, label_of};
 
 use crate::field::Field;

@@ -1,4 +1,4 @@
-ghost use Rattle.std.specs.Prelude.{◌≡◌, ◌+◌, codes, length, Some, IfSome, IfNone};
+ghost use Rattle.std.specs.Prelude.{◌≡◌, ◌+◌, length, Some, IfSome, IfNone};
 ghost use Rattle.std.specs.Option.{option_map};
 ghost use Rattle.trace_text.specs.Last.{totals_text, last_line, AreNumbers, complete_of, stripped, unserved_of, sessions_of, events_of, totals_of, last_reading};
 ghost use Rattle.trace_text.specs.Spelling.{StandsAt};
