@@ -16,11 +16,13 @@ use Rattle.handler_ops.specs.declared.need.Need.TheVariants as need
 use Rattle.handler_ops.specs.Course.{Desks}
 use Rattle.handler_ops.specs.Sessions.{Session}
 use Rattle.handler_ops.specs.Told.{need_as}
-use Rattle.cpu_program.specs.Actors.{Processor, Chipset, Actor, OfProcessor, OfChipset, Part, Between, Entering, Gathering, Closing, Serving, Exiting, Reporting, Off}
-use Rattle.cpu_program.specs.Bounds.{IsRow, IsServing, IsPart, IsChipsetRow, IsActor}
+use Rattle.chipset.specs.Chipsets.{Chipset, want_at_row}
+use Rattle.cpu_program.specs.Actors.{Processor, Actor, OfProcessor, OfChipset, Part, Between, Entering, Gathering, Closing, Serving, Exiting, Reporting, Off}
+use Rattle.chipset.specs.Bounds.{IsChipsetRow}
+use Rattle.cpu_program.specs.Bounds.{IsRow, IsServing, IsPart, IsActor}
 use Rattle.cpu_program.specs.Laws.{MovesOnItsWord}
 use Rattle.cpu_program.specs.Processors.{want_at, want_for, want_of_session, want_in, is_at_need, is_off_part}
-use Rattle.cpu_program.specs.Programs.{want_of, want_at_row, is_off, processors_of}
+use Rattle.cpu_program.specs.Programs.{want_of, is_off, processors_of}
 use Rattle.cpu_program.proofs.WantLemmas.{at_need}
 
 -- WHICH WORD

@@ -1,9 +1,8 @@
 mod CauseLemmas
 mod DeskLemmas
-mod WaveLemmas
 mod KindLemmas
 mod WantLemmas
-mod StayLemmas
+pub mod StayLemmas
 mod HandLemmas
 mod ReturnLemmas
 pub mod PlatformLemmas

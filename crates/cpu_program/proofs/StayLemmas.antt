@@ -7,8 +7,7 @@ use Rattle.smm_base.specs.declared.kinds.MapKind.{MapKind}
 use Rattle.smm_base.specs.declared.kinds.MapKind.TheVariants.{Ia32, Intel64}
 use Rattle.save_state_map.specs.Images.{ImageContents}
 use Rattle.cpu_regs.specs.Registers.{Registers}
-use Rattle.cpu_table.specs.Data.{SetupData, data_of}
-use Rattle.cpu_table.specs.declared.setup.Setup.{Setup}
+use Rattle.cpu_table.specs.Data.{SetupData}
 use Rattle.cpu_table.specs.declared.setup.Mode.{Mode}
 use Rattle.cpu_table.specs.declared.setup.Mode.TheVariants.{Traditional, Relaxed}
 use Rattle.sync_words.specs.declared.access.Applied.{Applied}
@@ -42,15 +41,15 @@ use Rattle.handler_ops.specs.Sessions.{Session, begun_session}
 use Rattle.handler_ops.specs.Told.{handed_as}
 use Rattle.handler_ops.specs.Answering.{HasTold, taken_off, move_as, kept_as, told_on, answered}
 use Rattle.cpu_program.specs.declared.cargo.Cargo.TheVariants.{Desk as DeskCargo, Chair as ChairCargo}
-use Rattle.cpu_program.specs.Actors.{Processor, Chipset, Actor, OfProcessor, OfChipset, Cargo, Part, Between, Entering, Gathering, Closing, Serving, Exiting, Reporting, Off}
-use Rattle.cpu_program.specs.Bounds.{IsRow, IsServing, IsPart, IsPlatform, IsOfKind, AreOfKind, HasProcessors, IsKept, Keeps, IsProcessor, IsChipsetRow, IsChipset, IsActor}
-use Rattle.cpu_program.specs.Chipsets as chipset
+use Rattle.cpu_program.specs.Actors.{Processor, Actor, OfProcessor, OfChipset, Cargo, Part, Between, Entering, Gathering, Closing, Serving, Exiting, Reporting, Off}
+use Rattle.chipset.specs.Bounds.{IsPlatform}
+use Rattle.cpu_program.specs.Bounds.{IsRow, IsServing, IsPart, IsOfKind, AreOfKind, HasProcessors, IsKept, Keeps, IsProcessor, IsActor}
 use Rattle.cpu_program.specs.Hands.{is_kind, desk_left, after_receiving}
 use Rattle.cpu_program.specs.Processors.{want_in, can_serve, own_desk, desks_held, is_elected, between, go_on, begin_exit, after_source, after_jobs, owes_job, to_jobs, with_need, serve_on, begin_serving, at_row, taken_serving, next_cause, desk_saved, entered, resumed, work_row, taken_at, left_to, known_bsp, entry_taken, gather_taken, close_taken, exit_taken, report_taken, taken_in, job_to_run}
-use Rattle.cpu_program.specs.Programs.{want_of, given_by_hand, given, received_by_hand, received, taken, taken_at_row, first_processor, first_actor, is_processor}
+use Rattle.cpu_program.specs.Programs.{want_of, given_by_hand, given, received_by_hand, received, taken, first_processor, first_actor, is_processor}
 use Rattle.cpu_program.proofs.KindLemmas.{set_kind, saved_kind, off_kind, off_len, handed_kind, handed_len, answered_kind, answered_len}
 use Rattle.cpu_program.proofs.WantLemmas.{Moves, moves_give, moves_take, chair_moves, held_moves, lt_of}
-use Rattle.cpu_program.proofs.WaveLemmas.{waves_some}
+use Rattle.chipset.proofs.StepLemmas.{begins, chipset_stays}
 
 -- WHAT IS KEPT
 
@@ -513,48 +512,11 @@ part_stays (Exiting e) p answer h here k accepted = exit_part e p (found_of answ
 part_stays (Reporting q) p answer h here k accepted = report_part q p answer h k accepted
 part_stays Off p answer h here k accepted = absurd accepted
 
--- THE CHIPSET
-
-raised_stays : (cpu : ℕ) (b : Bool) (c : Chipset) → nat_lt cpu c.setup.processors ≡ b → IsChipset c
-    → IsChipset (chipset.at_wave_row (if b then row.RaiseWave cpu else row.WatchSource 0) c)
-raised_stays cpu true c e h = record { platform = h.platform; first = h.first; last = h.last; row = lt_of cpu c.setup.processors e }
-raised_stays cpu false c e h =
-    let first = h.platform.first.0 in
-    record { platform = h.platform; first = h.first; last = h.last; row = omega (arith, first) }
-
-off_stays : (cpu : ℕ) (b : Bool) (c : Chipset) → nat_lt cpu c.setup.processors ≡ b → IsChipset c → IsChipset (record c { row = if b then Some (row.RaiseOff cpu) else None })
-off_stays cpu true c e h = record { platform = h.platform; first = h.first; last = h.last; row = lt_of cpu c.setup.processors e }
-off_stays cpu false c e h = record { platform = h.platform; first = h.first; last = h.last; row = tt }
-
-more_looks : (found looks most : ℕ) → (found == 0 || nat_le most (looks + 1)) ≡ false → looks + 1 < most
-more_looks found looks most e = grind arith
-
-watched_stays : (looks found : ℕ) (b : Bool) (c : Chipset) → chipset.is_watched c looks found ≡ b → IsChipset c
-    → IsChipset (chipset.at_wave_row (if b then row.AwaitServed else row.WatchSource (looks + 1)) c)
-watched_stays looks found true c e h = record { platform = h.platform; first = h.first; last = h.last; row = tt }
-watched_stays looks found false c e h =
-    record { platform = h.platform; first = h.first; last = h.last; row = more_looks found looks (c.setup.t1 + c.setup.t2) e }
-
-ended_stays : (b : Bool) (c : Chipset) → nat_lt c.wave (length c.setup.waves) ≡ b → IsChipset c
-    → IsChipset (if b then record c { row = Some row.AnnounceBlocked; wave = c.wave + 1 } else chipset.to_off 0 c)
-ended_stays true c e h =
-    let less = lt_of c.wave (length c.setup.waves) e in
-    record { platform = h.platform; first = omega arith; last = omega (arith, less); row = tt }
-ended_stays false c e h = off_stays 0 (nat_lt 0 c.setup.processors) c refl h
-
-wave_stays : (r : Option Row) (c : Chipset) (found : ℕ) → IsChipset c → IsChipsetRow r c → IsChipset (taken_at_row r c found).after
-wave_stays None c found h k = h
-wave_stays (Some row.AnnounceBlocked) c found h k = record { platform = h.platform; first = h.first; last = h.last; row = tt }
-wave_stays (Some row.AnnounceWave) c found h k = raised_stays 0 (nat_lt 0 c.setup.processors) c refl h
-wave_stays (Some (row.RaiseWave cpu)) c found h k = raised_stays (cpu + 1) (nat_lt (cpu + 1) c.setup.processors) c refl h
-wave_stays (Some (row.WatchSource looks)) c found h k = watched_stays looks found (chipset.is_watched c looks found) c refl h
-wave_stays (Some row.AwaitServed) c found h k = ended_stays (nat_lt c.wave (length c.setup.waves)) c refl h
-wave_stays (Some (row.RaiseOff cpu)) c found h k = off_stays (cpu + 1) (nat_lt (cpu + 1) c.setup.processors) c refl h
-wave_stays (Some _) c found h k = absurd k
+-- AN ACTOR
 
 pub taken_stays : (a : Actor) (answer : Applied) → IsActor a → Accepts (want_of a) answer → IsActor (taken a (found_of answer)).after
 taken_stays (OfProcessor p) answer h accepted = part_stays p.part p answer h.kept h.part h.part accepted
-taken_stays (OfChipset c) answer h accepted = wave_stays c.row c (found_of answer) h h.row
+taken_stays (OfChipset c) answer h accepted = chipset_stays c (found_of answer) h
 
 -- THE START
 
@@ -589,18 +551,8 @@ pub actor_stays : (d : SetupData) (actor : ℕ) (start : Option ImageContents) (
     → (IsSome start → actor < d.processors) → IfSome start (λ image. image.kind ≡ d.kind) → IfSome regs (λ registers. registers.kind ≡ d.kind)
     → IfSome chair (HasProcessors d.processors) → IsActor (first_actor d actor start regs chair)
 actor_stays d actor (Some image) (Some registers) chair platform own kind kinds same = first_stays d actor image registers chair platform (own refl) kind kinds same
-actor_stays d actor None regs chair platform own kind kinds same = record { platform = platform; first = omega arith; last = waves_some d platform; row = tt }
-actor_stays d actor (Some image) None chair platform own kind kinds same = record { platform = platform; first = omega arith; last = waves_some d platform; row = tt }
-
-pub platform_of : (s : Setup) → IsPlatform (data_of s)
-platform_of s =
-    record {
-      few = s.processors_in_range;
-      first = (s.polls_in_range.0, s.polls_in_range.1);
-      second = (s.polls_in_range.2, s.polls_in_range.3);
-      visits = s.visits_in_range;
-      waves = s.waves_in_range;
-    }
+actor_stays d actor None regs chair platform own kind kinds same = begins d platform
+actor_stays d actor (Some image) None chair platform own kind kinds same = begins d platform
 
 pub own_actor : (start : Option ImageContents) (n actor : ℕ) → is_some start ≡ is_processor n actor → IsSome start → actor < n
 own_actor start n actor e h = lt_of actor n (sym e ∙ h)

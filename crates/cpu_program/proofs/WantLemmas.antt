@@ -1,9 +1,7 @@
 -- What a program wants is within bounds, and stays while things change hands.
 use Rattle.std.proofs.Common.{◌≡◌, ◌<◌, ◌≤◌, ℕ, ◌==◌, ◌&&◌, Bool, true, false, Option, Some, None, refl, subst, sym, arith}
 use Rattle.std.proofs.lemmas.Bool.{and_from, and_parts, eqb-true}
-use Rattle.std.specs.Prelude.{nat_lt, slice_index_or, slice_set, if◌then◌else◌}
-use Rattle.cpu_table.specs.declared.waves.Arrival.{Arrival}
-use Rattle.cpu_table.specs.declared.waves.Arrival.TheVariants.{Prompt, Delayed, Blocked, Absent}
+use Rattle.std.specs.Prelude.{nat_lt, slice_set, if◌then◌else◌}
 use Rattle.sync_words.specs.declared.event.Hand.{Hand}
 use Rattle.sync_words.specs.declared.event.Hand.TheVariants.{Nothing, Give, Take}
 use Rattle.sync_words.specs.declared.row.Row.{Row}
@@ -20,7 +18,6 @@ use Rattle.exit_handshake.specs.Exit as exit
 use Rattle.exit_handshake.proofs.CloseLemmas.{close_within}
 use Rattle.exit_handshake.proofs.ExitLemmas.{exit_within}
 use Rattle.cpu_table.specs.Data.{SetupData}
-use Rattle.cpu_table.specs.Waves.{arrivals_of}
 use Rattle.handler_ops.specs.declared.desk.Desk.{Desk}
 use Rattle.handler_ops.specs.declared.desk.Job.{Job}
 use Rattle.handler_ops.specs.declared.need.Need.{Need}
@@ -31,14 +28,13 @@ use Rattle.handler_ops.specs.declared.row.Row.TheVariants as served
 use Rattle.handler_ops.specs.Answering.{is_at_hand, IsAtHand}
 use Rattle.handler_ops.specs.Sessions.{Session}
 use Rattle.handler_ops.specs.Told.{need_as}
-use Rattle.cpu_program.specs.Actors.{Processor, Chipset, Actor, OfProcessor, OfChipset, Cargo, Part, Between, Entering, Gathering, Closing, Serving, Exiting, Reporting, Off}
-use Rattle.cpu_program.specs.Bounds.{IsRow, IsServing, IsPart, IsProcessor, IsChipsetRow, IsChipset, IsActor}
-use Rattle.cpu_program.specs.Chipsets as chipset
+use Rattle.cpu_program.specs.Actors.{Processor, Actor, OfProcessor, OfChipset, Cargo, Part, Between, Entering, Gathering, Closing, Serving, Exiting, Reporting, Off}
+use Rattle.cpu_program.specs.Bounds.{IsRow, IsServing, IsPart, IsProcessor, IsActor}
 use Rattle.cpu_program.specs.Processors.{want_at, want_for, want_of_session, want_in, is_at_need, can_serve}
 use Rattle.cpu_program.specs.declared.cargo.Cargo.TheVariants.{Desk as DeskCargo, Chair as ChairCargo}
 use Rattle.cpu_program.specs.Hands.{is_kind, is_giving_back, ran_after, desk_left, after_receiving}
-use Rattle.cpu_program.specs.Programs.{want_of, want_at_row, processors_of, given_by_hand, given, received_by_hand, received}
-use Rattle.cpu_program.proofs.WaveLemmas.{blocked_few, waves_few}
+use Rattle.cpu_program.specs.Programs.{want_of, processors_of, given_by_hand, given, received_by_hand, received}
+use Rattle.chipset.proofs.StepLemmas.{chipset_within}
 
 -- WITHIN BOUNDS
 
@@ -89,25 +85,9 @@ part_within (Exiting e) p own there h = subst (λ n. IsWantWithin n (exit.want_o
 part_within (Reporting r) p own there h = subst (λ n. IsWantWithin n (report.want_of r.row r)) h.1.same (report_bounds.wants_within r h.0)
 part_within Off p own there h = tt
 
-signal_few : (a : Arrival) → chipset.signal_for a ≤ 4
-signal_few Prompt = omega arith
-signal_few Delayed = omega arith
-signal_few Blocked = omega arith
-signal_few Absent = omega arith
-
-chipset_within : (r : Option Row) (c : Chipset) → IsChipset c → IsChipsetRow r c → IsWantWithin c.setup.processors (want_at_row r c)
-chipset_within None c h k = tt
-chipset_within (Some row.AnnounceBlocked) c h k = (tt, omega (arith, blocked_few c.setup c.wave h.platform))
-chipset_within (Some row.AnnounceWave) c h k = (tt, (let last = h.last in omega (arith, last, waves_few c.setup h.platform)))
-chipset_within (Some (row.RaiseWave cpu)) c h k = (k, signal_few (slice_index_or (arrivals_of c.setup.waves c.wave) cpu Absent))
-chipset_within (Some (row.WatchSource looks)) c h k = (tt, tt)
-chipset_within (Some row.AwaitServed) c h k = (tt, (omega arith, omega arith))
-chipset_within (Some (row.RaiseOff cpu)) c h k = (k, omega arith)
-chipset_within (Some _) c h k = absurd k
-
 pub want_within : (a : Actor) → IsActor a → IsWantWithin (processors_of a) (want_of a)
 want_within (OfProcessor p) h = part_within p.part p h.kept.own h.kept.bsp h.part
-want_within (OfChipset c) h = chipset_within c.row c h h.row
+want_within (OfChipset c) h = chipset_within c h
 
 -- WHILE THINGS CHANGE HANDS
 

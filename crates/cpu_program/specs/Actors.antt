@@ -3,10 +3,10 @@ use Rattle.std.specs.Prelude.{ℕ, List, Option}
 use Rattle.save_state_map.specs.Images.{ImageContents}
 use Rattle.cpu_regs.specs.Registers.{Registers}
 use Rattle.cpu_table.specs.Data.{SetupData}
-use Rattle.sync_words.specs.declared.row.Row.{Row}
 use Rattle.handler_ops.specs.declared.desk.Desk.{Desk}
 use Rattle.handler_ops.specs.declared.desk.Job.{Job}
 use Rattle.handler_ops.specs.Sessions.{Session}
+use Rattle.chipset.specs.Chipsets.{Chipset}
 pub use Rattle.cpu_program.specs.declared.cargo.Cargo.{Cargo}
 pub use Rattle.cpu_program.specs.declared.part.Part.{Part}
 pub use Rattle.cpu_program.specs.declared.part.Part.TheVariants.{Between, Entering, Gathering, Closing, Serving, Exiting, Reporting, Off}
@@ -24,12 +24,6 @@ pub record Processor : Type 0 where
   pub held : List (Option Desk)  -- the desks that it holds, its own among them, one item for each processor
   pub chair : Option Session  -- the state of serving, where it has the chair
   pub ran : Option Job  -- the job that it ran, until its event tells of it
-
--- the chipset: its row, or none where it is off, and the wave that it announces, from 1
-pub record Chipset : Type 0 where
-  pub setup : SetupData
-  pub row : Option Row
-  pub wave : ℕ
 
 pub data Actor : Type 0 where
   OfProcessor : Processor → Actor

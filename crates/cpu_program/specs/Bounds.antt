@@ -1,9 +1,8 @@
 -- What a program keeps between its events: each number, list and image of its actor is one of the platform's.
-use Rattle.std.specs.Prelude.{ℕ, ◌≡◌, ◌<◌, ◌≤◌, ◌+◌, true, length, Option, Some, None, IfSome}
+use Rattle.std.specs.Prelude.{ℕ, ◌≡◌, ◌<◌, ◌≤◌, true, length, Option, Some, None, IfSome}
 use Rattle.smm_base.specs.declared.kinds.MapKind.{MapKind}
 use Rattle.save_state_map.specs.Images.{ImageContents}
 use Rattle.cpu_regs.specs.Registers.{Registers}
-use Rattle.cpu_table.specs.Ranges.{waves_fit}
 use Rattle.sync_words.specs.declared.row.Row.{Row}
 use Rattle.sync_words.specs.declared.row.Row.TheVariants as row
 use Rattle.arrival.specs.Entry as entry
@@ -16,8 +15,9 @@ use Rattle.handler_ops.specs.declared.desk.Desk.{Desk}
 use Rattle.handler_ops.specs.Course.{Desks, desk_of}
 use Rattle.handler_ops.specs.Sessions.{Session}
 use Rattle.handler_ops.specs.Answering.{HasTold}
+use Rattle.chipset.specs.Bounds.{IsPlatform, IsChipset}
 use Rattle.cpu_program.specs.declared.processor.Processor.{Processor as ProcessorFields}
-use Rattle.cpu_program.specs.Actors.{Processor, Chipset, Actor, OfProcessor, OfChipset, Part, Between, Entering, Gathering, Closing, Serving, Exiting, Reporting, Off}
+use Rattle.cpu_program.specs.Actors.{Processor, Actor, OfProcessor, OfChipset, Part, Between, Entering, Gathering, Closing, Serving, Exiting, Reporting, Off}
 use Rattle.cpu_program.specs.Processors.{can_serve}
 
 -- a part of the platform's processors that goes on
@@ -57,14 +57,6 @@ IsPart Serving d visits chair held = IsServing d.processors chair held
 IsPart (Exiting e) d visits chair held = exit.IsExit e × GoesOn d.processors e.processors (exit.left_of e.row)
 IsPart (Reporting r) d visits chair held = report.IsReport r × GoesOn d.processors r.processors (report.left_of r.row)
 IsPart Off d visits chair held = Unit {0}
-
--- the ranges of a platform that its processors rest on
-pub record IsPlatform (d : SetupData) : Type 0 where
-  pub few : (1 ≤ d.processors) × (d.processors ≤ 64)
-  pub first : (1 ≤ d.t1) × (d.t1 ≤ 4096)
-  pub second : (1 ≤ d.t2) × (d.t2 ≤ 4096)
-  pub visits : (1 ≤ d.visits) × (d.visits ≤ 256)
-  pub waves : waves_fit d.processors d.visits d.waves ≡ true
 
 -- the image on a desk is of this kind
 abbrev pub IsOfKind : MapKind → Desk → Type 0
@@ -106,24 +98,6 @@ pub record IsReady (p : ProcessorFields) : Type 0 where
 pub record HasImages (p : ProcessorFields) : Type 0 where
   pub registers : p.registers.kind ≡ p.identity.setup.kind
   pub kinds : AreOfKind p.identity.setup.kind p.held.desks
-
--- the rows of the chipset: an interrupt is raised at a processor of the platform, and a look for the wave to be taken is left
-abbrev pub IsChipsetRow : Option Row → Chipset → Type 0
-IsChipsetRow None c = Unit {0}
-IsChipsetRow (Some row.AnnounceBlocked) c = Unit {0}
-IsChipsetRow (Some row.AnnounceWave) c = Unit {0}
-IsChipsetRow (Some (row.RaiseWave cpu)) c = cpu < c.setup.processors
-IsChipsetRow (Some (row.WatchSource looks)) c = looks < c.setup.t1 + c.setup.t2
-IsChipsetRow (Some row.AwaitServed) c = Unit {0}
-IsChipsetRow (Some (row.RaiseOff cpu)) c = cpu < c.setup.processors
-IsChipsetRow (Some _) c = ⊥
-
--- the wave is one of the platform's
-pub record IsChipset (c : Chipset) : Type 0 where
-  pub platform : IsPlatform c.setup
-  pub first : 1 ≤ c.wave
-  pub last : c.wave ≤ length c.setup.waves
-  pub row : IsChipsetRow c.row c
 
 abbrev pub IsActor : Actor → Type 0
 IsActor (OfProcessor p) = IsProcessor p

@@ -2,7 +2,6 @@ pub mod Actors
 pub mod Visits
 pub mod Processors
 pub mod Hands
-pub mod Chipsets
 pub mod Programs
 pub mod Bounds
 pub mod Views

@@ -8,15 +8,14 @@ use Rattle.sync_words.specs.declared.event.Hand.{Hand}
 use Rattle.sync_words.specs.declared.event.Hand.TheVariants.{Nothing, Give, Take}
 use Rattle.sync_words.specs.declared.event.Want.{Want}
 use Rattle.sync_words.specs.declared.event.Want.TheVariants as want
-use Rattle.sync_words.specs.declared.row.Row.{Row}
 use Rattle.sync_words.specs.declared.row.Row.TheVariants as row
 use Rattle.sync_words.specs.declared.label.Label.TheVariants as say
 use Rattle.sync_words.specs.Steps.{Taken, says, hand_of}
 use Rattle.handler_ops.specs.declared.desk.Desk.{Desk}
 use Rattle.handler_ops.specs.Sessions.{Session}
-use Rattle.cpu_program.specs.Actors.{Processor, Chipset, Actor, OfProcessor, OfChipset, Cargo, Between}
+use Rattle.chipset.specs.Chipsets.{Chipset, first_chipset, want_at_row, taken_at_row}
+use Rattle.cpu_program.specs.Actors.{Processor, Actor, OfProcessor, OfChipset, Cargo, Between}
 use Rattle.cpu_program.specs.Processors as processor
-use Rattle.cpu_program.specs.Chipsets as chipset
 use Rattle.cpu_program.specs.Hands.{thing_given, after_giving, after_receiving}
 
 -- THE START
@@ -42,10 +41,6 @@ first_processor d me image registers chair =
       ran = None;
     }
 
--- the chipset announces the first wave
-abbrev pub first_chipset : SetupData → Chipset
-first_chipset d = record { setup = d; row = Some row.AnnounceBlocked; wave = 1 }
-
 -- the actors below the number of processors are processors, and the one after them is the chipset
 abbrev pub is_processor : ℕ → ℕ → Bool
 is_processor processors actor = nat_lt actor processors
@@ -56,10 +51,6 @@ first_actor d actor (Some image) (Some registers) chair = OfProcessor (first_pro
 first_actor d actor image registers chair = OfChipset (first_chipset d)
 
 -- WANTS
-
-abbrev pub want_at_row : Option Row → Chipset → Want
-want_at_row None c = want.Off
-want_at_row (Some r) c = chipset.want_at r c
 
 -- what an actor wants: an access to a word with what changes hands, or nothing where it is off
 abbrev pub want_of : Actor → Want
@@ -88,10 +79,6 @@ processor_taken t = says t.label (OfProcessor t.after)
 
 abbrev pub chipset_taken : Taken Chipset → Taken Actor
 chipset_taken t = says t.label (OfChipset t.after)
-
-abbrev pub taken_at_row : Option Row → Chipset → ℕ → Taken Chipset
-taken_at_row None c found = says say.Silent c
-taken_at_row (Some r) c found = chipset.taken_at r c found
 
 -- what the event says by the number found, and the actor after it; what changes hands has done so
 abbrev pub taken : Actor → ℕ → Taken Actor

@@ -1,8 +1,7 @@
--- The private fields of a processor and of the chipset, and of a program, as an actor.
+-- The private fields of a processor, and of a program, as an actor.
 use Rattle.cpu_table.specs.Data.{data_of}
-use Rattle.cpu_program.specs.Actors.{Processor, Chipset, Actor, OfProcessor, OfChipset}
+use Rattle.cpu_program.specs.Actors.{Processor, Actor, OfProcessor, OfChipset}
 use Rattle.cpu_program.specs.declared.processor.Processor.{Processor as ProcessorFields}
-use Rattle.cpu_program.specs.declared.chipset.Chipset.{Chipset as ChipsetFields}
 use Rattle.cpu_program.specs.declared.state.State.{State}
 use Rattle.cpu_program.specs.declared.state.State.TheVariants as state
 
@@ -22,9 +21,6 @@ processor_in p =
       ran = p.ran;
     }
 
-abbrev pub chipset_in : ChipsetFields → Chipset
-chipset_in c = record { setup = data_of c.setup; row = c.row; wave = c.wave }
-
 abbrev pub actor_in : State → Actor
 actor_in (state.Processor p) = OfProcessor (processor_in p)
-actor_in (state.Chipset c) = OfChipset (chipset_in c)
+actor_in (state.Chipset c) = OfChipset c

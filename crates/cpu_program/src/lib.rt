@@ -1,9 +1,8 @@
-// What each actor does: a processor from its interrupt to its resume, and the chipset. A program tells the access that it
+// What each actor does: a processor from its interrupt to its resume, or the chipset. A program tells the access that it
 // wants, is told what the access found, and answers with the event.
 #![tactic(auto)]
 
 mod cargo;
-mod chipset;
 mod going;
 mod hands;
 mod identity;

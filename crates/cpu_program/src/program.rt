@@ -138,7 +138,7 @@ impl Program {
     {
         match &self.state {
             State::Processor(processor) => processor.is_off(),
-            State::Chipset(chipset) => chipset.row.is_none(),
+            State::Chipset(chipset) => chipset.is_off(),
         }
     }
 }

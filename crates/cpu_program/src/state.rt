@@ -6,9 +6,9 @@ ghost use Rattle.cpu_program.specs.Programs.{first_actor, gift_of, given, number
 ghost use Rattle.cpu_program.specs.Views.{actor_in};
 
 use crate::cargo::Cargo;
-use crate::chipset::Chipset;
 use crate::identity::Identity;
 use crate::processor::{Processor, held_at_first};
+use chipset::Chipset;
 use cpu_regs::Regs;
 use cpu_table::Setup;
 use handler_ops::Server;
@@ -65,7 +65,7 @@ impl State {
     {
         match self {
             State::Processor(processor) => processor.identity.me,
-            State::Chipset(chipset) => chipset.setup.processors,
+            State::Chipset(chipset) => chipset.processors(),
         }
     }
 

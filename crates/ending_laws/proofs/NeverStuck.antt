@@ -10,7 +10,8 @@ use Rattle.cpu_regs.specs.Registers.{Registers}
 use Rattle.cpu_table.specs.Data.{SetupData, data_of}
 use Rattle.cpu_table.specs.declared.setup.Setup.{Setup}
 use Rattle.cpu_program.specs.Actors.{Actor, OfProcessor, OfChipset}
-use Rattle.cpu_program.specs.Programs.{first_chipset, is_off, want_of}
+use Rattle.chipset.specs.Chipsets.{first_chipset}
+use Rattle.cpu_program.specs.Programs.{is_off, want_of}
 use Rattle.rendezvous_core.specs.declared.stepped.Stepped.{Stepped}
 use Rattle.rendezvous_core.specs.declared.stepped.Stepped.TheVariants as stepped
 use Rattle.ending_laws.specs.Endings.{MakesEvent, CanGoOn, IsNeverStuck}

@@ -21,10 +21,11 @@ use Rattle.sync_words.specs.Steps.{hand_of}
 use Rattle.cpu_program.specs.declared.cargo.Cargo.{Cargo}
 use Rattle.cpu_program.specs.declared.cargo.Cargo.TheVariants as cargo
 use Rattle.cpu_program.specs.declared.part.Part.{Part}
-use Rattle.cpu_program.specs.Actors.{Actor, Processor, Chipset, OfProcessor, OfChipset}
+use Rattle.chipset.specs.Chipsets.{Chipset, first_chipset}
+use Rattle.cpu_program.specs.Actors.{Actor, Processor, OfProcessor, OfChipset}
 use Rattle.cpu_program.specs.Hands.{after_giving, after_receiving, desk_left, is_kind}
 use Rattle.cpu_program.specs.Processors.{taken_in}
-use Rattle.cpu_program.specs.Programs.{first_chipset, gift_of, given_by_hand, received_by_hand, want_of}
+use Rattle.cpu_program.specs.Programs.{gift_of, given_by_hand, received_by_hand, want_of}
 use Rattle.rendezvous_core.specs.Worlds.{World, Words, Lying, Turn, Moves, Waits, Rests, read, write, lay, lying_on, gives, takes, accesses, turn_wanting, turned}
 use Rattle.ending_laws.proofs.Parts.{class_of}
 

@@ -24,11 +24,11 @@ use Rattle.handler_ops.specs.declared.need.Need.TheVariants as need
 use Rattle.handler_ops.specs.Sessions.{Session as Chair}
 use Rattle.handler_ops.specs.Told.{need_as}
 use Rattle.cpu_program.specs.declared.cargo.Cargo.TheVariants as cargo
-use Rattle.cpu_program.specs.Actors.{Actor, Processor, Chipset, OfProcessor, OfChipset}
-use Rattle.cpu_program.specs.Chipsets.{signal_for, signal_in, is_watched}
+use Rattle.cpu_program.specs.Actors.{Actor, Processor, OfProcessor, OfChipset}
+use Rattle.chipset.specs.Chipsets.{signal_for, signal_in, is_watched, Chipset, first_chipset}
 use Rattle.cpu_program.specs.Hands.{is_kind}
 use Rattle.cpu_program.specs.Processors.{entered, is_relaxed, job_to_run, own_desk, resumed, taken_in, want_for, want_of_session}
-use Rattle.cpu_program.specs.Programs.{first_chipset, want_of}
+use Rattle.cpu_program.specs.Programs.{want_of}
 use Rattle.rendezvous_core.specs.Worlds.{World, Words, Lying, turn, step, step_of, turn_wanting}
 use Rattle.rendezvous_machine.specs.Machines.{Machine, member}
 use Rattle.schedule_laws.proofs.Scenes.{Scene, Seat, Herald, AnnouncingBlocked, AnnouncingWave, Raising, Watching, AwaitingServed, TurningOff, Silenced, Position, Lead, MarkingInside, TakingSource, LookingAtExcept, GatheringFirst, FindingMissing, SignallingMissing, GatheringSecond, MarkingInsync, LockingCounter, AwaitingReports, TakingDesk, BeginningToServe, AtHandlers, Collecting, LeavingInside, Releasing, AwaitingReleased, Dismissing, AwaitingDismissed, GivingChair, LeavingInsync, UnlockingCounter, AwaitingSmi, SwitchingOff, LookingAtSource, LookingInside, CountingIn, ClaimingChair, AskingForChair, Leading, AwaitingInside, FindingBsp, SignallingBsp, AwaitingInsideAgain, CountingOut, SeekingBsp, Reporting, TellingReport, AwaitingRelease, GivingBack, TellingRelease, AwaitingDismissal, Withdrawing, TellingDismissal, AwaitingEnd, ClearingSignal, Away, seat, row_at, chipset_at, chipset_of, processor_at, processor_of, part_at, actors_of, world_of, seat_get, watch_from, beyond_from}

@@ -21,11 +21,12 @@ use Rattle.cpu_program.specs.declared.cargo.Cargo.{Cargo}
 use Rattle.cpu_program.specs.declared.cargo.Cargo.TheVariants.{Desk as DeskCargo, Chair as ChairCargo}
 use Rattle.cpu_program.specs.declared.part.Part.{Part}
 use Rattle.cpu_program.specs.declared.part.Part.TheVariants.{Between, Entering, Gathering, Closing, Serving, Exiting, Reporting, Off}
-use Rattle.cpu_program.specs.Actors.{Processor, Chipset, Actor, OfProcessor, OfChipset}
+use Rattle.chipset.specs.Chipsets.{Chipset, taken_at_row}
+use Rattle.cpu_program.specs.Actors.{Processor, Actor, OfProcessor, OfChipset}
 use Rattle.cpu_program.specs.Processors.{own_desk, go_on, to_jobs, after_source, after_jobs, with_need, told_need, begin_serving, at_row, taken_serving, entered, resumed, taken_at, left_to, known_bsp, taken_in}
-use Rattle.cpu_program.specs.Chipsets as chipset
+use Rattle.chipset.specs.Chipsets as chipset
 use Rattle.cpu_program.specs.Hands.{is_kind, after_giving, after_receiving}
-use Rattle.cpu_program.specs.Programs.{want_of, taken_at_row, taken, given_by_hand, given, received_by_hand, received, number_of}
+use Rattle.cpu_program.specs.Programs.{want_of, taken, given_by_hand, given, received_by_hand, received, number_of}
 
 by_test : (b : Bool) (x y : Processor) (n : ℕ) → x.me ≡ n → y.me ≡ n → (cond b x y).me ≡ n
 by_test true x y n hx hy = hx

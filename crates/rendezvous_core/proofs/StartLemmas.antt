@@ -14,7 +14,7 @@ use Rattle.smbase_reloc.specs.Areas.{smbase_of}
 use Rattle.smbase_reloc.specs.Relocation.{is_fixed, refusal_of, refusal_at, relocation_refusal, with_smbase, relocated}
 use Rattle.smbase_reloc.specs.declared.error.RelocError.{RelocError}
 use Rattle.cpu_program.specs.Actors.{Actor, OfChipset}
-use Rattle.cpu_program.specs.Programs.{first_chipset}
+use Rattle.chipset.specs.Chipsets.{first_chipset}
 use Rattle.rendezvous_core.specs.Starts.{AreImagesOf, placed_in, first_registers}
 use Rattle.rendezvous_core.specs.StartsInside.{refusal_one, or_else, refusal_from, AreRegistersOf}
 use Rattle.rendezvous_core.specs.Worlds.{first_actor, first_actors}

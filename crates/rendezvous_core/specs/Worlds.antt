@@ -25,7 +25,8 @@ use Rattle.handler_ops.specs.Sessions.{Session, first_session}
 use Rattle.cpu_program.specs.declared.cargo.Cargo.TheVariants.{Chair}
 use Rattle.cpu_program.specs.declared.cargo.Cargo.{Cargo}
 use Rattle.cpu_program.specs.Actors.{Actor, OfProcessor, OfChipset}
-use Rattle.cpu_program.specs.Programs.{first_processor, first_chipset, want_of, is_off, taken, gift_of, given, received, last_of}
+use Rattle.chipset.specs.Chipsets.{first_chipset}
+use Rattle.cpu_program.specs.Programs.{first_processor, want_of, is_off, taken, gift_of, given, received, last_of}
 use Rattle.rendezvous_core.specs.declared.stepped.Stepped.{Stepped}
 use Rattle.rendezvous_core.specs.declared.stepped.Stepped.TheVariants as stepped
 

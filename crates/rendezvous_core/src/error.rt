@@ -16,7 +16,7 @@ pub enum WorldError {
 }
 
 /// The refusal of a relocation.
-pub(crate) fn not_relocated(error: RelocError) -> WorldError
+pub fn not_relocated(error: RelocError) -> WorldError
     ensures { IsRefusedBy (Some error) result }
 {
     match error {

@@ -15,9 +15,9 @@ mod words;
 mod words_of_kind;
 mod world;
 
-pub use error::WorldError;
+pub use error::{WorldError, not_relocated};
 pub use laws::schedule_laws;
 pub use schedule::replay;
-pub use starting::start_fault;
+pub use starting::{start_fault, start_registers};
 pub use stepped::Stepped;
 pub use world::World;

@@ -8,4 +8,5 @@ pub mod Lists
 pub mod Working
 pub mod Once
 pub mod Lawful
+pub mod ImageKinds
 pub mod Examples

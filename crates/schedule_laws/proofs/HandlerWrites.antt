@@ -29,6 +29,7 @@ use Rattle.rendezvous_machine.specs.Listed.{CanSay, grown}
 use Rattle.rendezvous_machine.specs.Rules.{Rule}
 use Rattle.rendezvous_machine.specs.Effects.{effect, says, saying, with_member}
 use Rattle.rendezvous_machine.specs.Services.{setting, Target, WriteShows, Writes, written}
+use Rattle.rendezvous_machine.proofs.ImageKinds.{write_kind}
 use Rattle.rendezvous_laws.proofs.Places.{sound_with}
 use Rattle.rendezvous_laws.proofs.Writes.{register_known, written_is}
 use Rattle.schedule_laws.proofs.Scenes.{Scene, Seat, seat, no_seat, actors_of, processor_of, seat_put}
@@ -38,7 +39,6 @@ use Rattle.schedule_laws.proofs.Invariant.{Context, View, IsReady, IsSelf, IsCpu
 use Rattle.schedule_laws.proofs.Frames.{busies_more, jobs_more, mode_le, signals_more}
 use Rattle.schedule_laws.proofs.LeadFrames.{at_stage}
 use Rattle.schedule_laws.proofs.SessionFrames.{bsp_says, session_map}
-use Rattle.schedule_laws.proofs.ImageKinds.{write_kind}
 use Rattle.schedule_laws.proofs.HandlerSteps.{seat_in}
 use Rattle.schedule_laws.proofs.HandlerPlaces.{IsNext, next_both, alike, tied, serves_is, can_say, led_on}
 use Rattle.schedule_laws.proofs.HandlerRows.{IsWatched}

@@ -10,7 +10,7 @@ use Rattle.cpu_table.specs.Waves.{arrivals_of, blocked_in}
 use Rattle.sync_words.specs.declared.row.Row.TheVariants as row
 use Rattle.handler_ops.specs.declared.desk.Desk.{Desk}
 use Rattle.cpu_program.specs.Actors.{Actor, OfChipset}
-use Rattle.cpu_program.specs.Chipsets.{signal_for, signal_in, is_watched}
+use Rattle.chipset.specs.Chipsets.{signal_for, signal_in, is_watched}
 use Rattle.rendezvous_core.specs.Worlds.{Words, Lying}
 use Rattle.rendezvous_machine.specs.Machines.{Machine, member}
 use Rattle.schedule_laws.proofs.Scenes.{Scene, Watch, Herald, AnnouncingBlocked, AnnouncingWave, Raising, Watching, AwaitingServed, TurningOff, Silenced, chipset_at, chipset_of, actors_of, watch_set_from}

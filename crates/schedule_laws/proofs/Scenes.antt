@@ -11,7 +11,8 @@ use Rattle.handler_ops.specs.declared.desk.Desk.{Desk}
 use Rattle.handler_ops.specs.Sessions.{Session as Chair}
 use Rattle.cpu_program.specs.declared.part.Part.{Part}
 use Rattle.cpu_program.specs.declared.part.Part.TheVariants as part
-use Rattle.cpu_program.specs.Actors.{Processor, Chipset, Actor, OfProcessor, OfChipset}
+use Rattle.chipset.specs.Chipsets.{Chipset}
+use Rattle.cpu_program.specs.Actors.{Processor, Actor, OfProcessor, OfChipset}
 use Rattle.cpu_program.specs.Processors.{is_relaxed, is_elected}
 use Rattle.rendezvous_core.specs.Worlds.{Words, Lying, World}
 use Rattle.rendezvous_machine.specs.Machines.{no_image}

@@ -22,13 +22,13 @@ use Rattle.rendezvous_core.specs.Worlds.{Words}
 use Rattle.rendezvous_machine.specs.declared.phase.Phase.TheVariants.{Out, In, Counted, Gone, Off}
 use Rattle.rendezvous_machine.specs.Machines.{Machine, member}
 use Rattle.rendezvous_machine.specs.Effects.{with_member}
+use Rattle.rendezvous_machine.proofs.ImageKinds.{saved_kind}
 use Rattle.schedule_laws.proofs.Scenes.{Scene, Seat, Position, AwaitingSmi, SwitchingOff, LookingAtSource, LookingInside, CountingIn, ClaimingChair, AskingForChair, AwaitingInside, AwaitingEnd, ClearingSignal, Away, seat, processor_at, actors_of, entering_at}
 use Rattle.schedule_laws.proofs.Stations.{station_of, work_of}
 use Rattle.schedule_laws.proofs.Invariant.{Context, View, IsCpu, IsIdle, IsSignal, Holds, IsFine, KeptAt, desk_at, locked, view_at}
 use Rattle.schedule_laws.proofs.Frames.{IsMover, mover, own_at, seated, stays, signal_set}
 use Rattle.schedule_laws.proofs.OwnFrames.{seat_holds, member_holds}
 use Rattle.schedule_laws.proofs.Facts.{not_at_work, is_closed, not_closed, locked_stage, open_stage}
-use Rattle.schedule_laws.proofs.ImageKinds.{saved_kind}
 use Rattle.schedule_laws.proofs.VisitMoves.{arriving, arriving_first, arriving_first_run, arriving_owner, arriving_owner_run, arriving_run, coming_late, coming_late_run, entering, entering_run, looking_at_source, looking_at_source_run, looking_inside, looking_inside_run, resuming, resuming_last, resuming_last_run, resuming_run, session_ended, session_ended_run, switching_off, switching_off_run, turned_off, turned_off_run, turning, turning_run}
 
 pub look_at_source : (d : SetupData) (c : Context) (i : ℕ) (s : Scene) (m : Machine) (t : Seat) → Holds d c s m → i < d.processors → seat s i ≡ t → t.position ≡ LookingAtSource

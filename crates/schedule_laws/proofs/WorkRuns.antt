@@ -25,6 +25,7 @@ use Rattle.rendezvous_core.specs.Worlds.{Words, Lying}
 use Rattle.rendezvous_machine.specs.Machines.{Machine, Member, Session, member, nobody}
 use Rattle.rendezvous_machine.specs.Listed.{is_over, nothing_left, place_of, place_in, place_by, first_serving, grown_unless}
 use Rattle.rendezvous_machine.specs.Effects.{with_member, worked, hears, answered, image_run}
+use Rattle.rendezvous_machine.proofs.ImageKinds.{run_kind}
 use Rattle.rendezvous_laws.proofs.Places.{leads_after, leads_on}
 use Rattle.schedule_laws.proofs.Scenes.{Scene, Seat, GivingBack, AwaitingRelease, seat, no_seat, processor_of, actors_of}
 use Rattle.schedule_laws.proofs.Stations.{station_of, work_of}
@@ -33,7 +34,6 @@ use Rattle.schedule_laws.proofs.Leads.{serves_stage}
 use Rattle.schedule_laws.proofs.Invariant.{Context, View, IsCpu, IsAt, IsCourse, IsJobOf, IsIdle, IsRunOf, IsBusy, GoesOn, Holds, IsFine, KeptAt, begins_from, serves_from, mode_of, desk_at, first_place, with_done, by_done, is_owed, seat_known, seat_listed, view, view_at, view_of, seat_view, locked}
 use Rattle.schedule_laws.proofs.Frames.{IsAround, IsMover, mover, around, peers_move, own_at, run_of, view_is, seat_set, seated, keeps_own, keeps_idle, busies_set, signals_more, mode_le}
 use Rattle.schedule_laws.proofs.Facts.{work_unreleased}
-use Rattle.schedule_laws.proofs.ImageKinds.{run_kind}
 use Rattle.schedule_laws.proofs.Works.{IsOpenJob, open_job}
 use Rattle.schedule_laws.proofs.ReportMoves.{running_job, running_job_run}
 

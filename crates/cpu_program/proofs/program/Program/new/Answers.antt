@@ -1,7 +1,8 @@
 use Rattle.std.proofs.Common.{sym, subst}
 use Rattle.cpu_table.specs.Data.{data_of}
 use Rattle.cpu_program.specs.Bounds.{IsActor}
-use Rattle.cpu_program.proofs.StayLemmas.{actor_stays, platform_of, own_actor, chair_same}
+use Rattle.cpu_program.proofs.StayLemmas.{actor_stays, own_actor, chair_same}
+use Rattle.chipset.proofs.StepLemmas.{platform_of}
 use Rattle.cpu_program.proofs.program.Program.new.Goals as goal
 
 pub invariant_of-result : goal.invariant_of-result

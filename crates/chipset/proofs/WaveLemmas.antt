@@ -8,7 +8,7 @@ use Rattle.cpu_table.specs.Data.{SetupData}
 use Rattle.cpu_table.specs.Ranges.{wave_fits, is_between}
 use Rattle.cpu_table.specs.declared.waves.Wave.{Wave}
 use Rattle.cpu_table.specs.Waves.{arrivals_in, arrivals_of, blocked_in, is_blocked}
-use Rattle.cpu_program.specs.Bounds.{IsPlatform}
+use Rattle.chipset.specs.Bounds.{IsPlatform}
 
 wave_few : (n : ℕ) (waves : List Wave) (i : ℕ) → list_all (wave_fits n) waves ≡ true → length (arrivals_in (slice_get waves i)) ≤ n
 wave_few n [] i h = omega arith

@@ -1,6 +1,7 @@
 -- The chipset, row by row: it announces each wave, sends its interrupts, and waits until it was served; after the last wave it turns
 -- all signals off. The chipset as an actor is the project's own.
 use Rattle.std.specs.Prelude.{ℕ, ◌+◌, ◌==◌, ◌||◌, nat_le, nat_lt, Bool, if◌then◌else◌, List, length, slice_index_or, Option, Some, None}
+use Rattle.cpu_table.specs.Data.{SetupData}
 use Rattle.cpu_table.specs.declared.waves.Arrival.{Arrival}
 use Rattle.cpu_table.specs.declared.waves.Arrival.TheVariants.{Prompt, Delayed, Blocked, Absent}
 use Rattle.cpu_table.specs.declared.waves.Wave.{Wave}
@@ -14,7 +15,16 @@ use Rattle.sync_words.specs.declared.row.Row.TheVariants as row
 use Rattle.sync_words.specs.declared.signal.TheConstants.{DELIVERABLE, HELD, BLOCKED, OFF}
 use Rattle.sync_words.specs.declared.word.WordId.TheVariants.{Inside, Source, Except, Pend}
 use Rattle.sync_words.specs.Steps.{Taken, says, wants, looks_at}
-use Rattle.cpu_program.specs.Actors.{Chipset}
+
+-- its row, or none where it is off, and the wave that it announces, from 1
+pub record Chipset : Type 0 where
+  pub setup : SetupData
+  pub row : Option Row
+  pub wave : ℕ
+
+-- it announces the first wave
+abbrev pub first_chipset : SetupData → Chipset
+first_chipset d = record { setup = d; row = Some row.AnnounceBlocked; wave = 1 }
 
 -- the signal that a processor gets
 abbrev pub signal_for : Arrival → ℕ
@@ -57,6 +67,11 @@ want_at row.AwaitServed c = wants Inside (Await 0 0)
 want_at (row.RaiseOff cpu) c = wants (Pend cpu) (Raise OFF)
 want_at _ c = want.Off
 
+-- what it wants, nothing where it is off
+abbrev pub want_at_row : Option Row → Chipset → Want
+want_at_row None c = want.Off
+want_at_row (Some r) c = want_at r c
+
 -- a look for the wave to be taken; both rounds of looks are its time
 abbrev pub is_watched : Chipset → ℕ → ℕ → Bool
 is_watched c looks found = found == 0 || nat_le (c.setup.t1 + c.setup.t2) (looks + 1)
@@ -74,3 +89,8 @@ taken_at (row.WatchSource looks) c found =
 taken_at row.AwaitServed c found = says say.Silent (after_wave c)
 taken_at (row.RaiseOff cpu) c found = says say.Silent (to_off (cpu + 1) c)
 taken_at _ c found = says say.Silent c
+
+-- where it is off it says nothing and stays
+abbrev pub taken_at_row : Option Row → Chipset → ℕ → Taken Chipset
+taken_at_row None c found = says say.Silent c
+taken_at_row (Some r) c found = taken_at r c found

@@ -1,0 +1,2 @@
+pub mod Chipsets
+pub mod Bounds
