@@ -1,0 +1,4 @@
+pub mod Computed
+pub mod GivingUp
+pub mod Launching
+pub mod Slow

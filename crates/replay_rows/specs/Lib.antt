@@ -1,0 +1,3 @@
+pub mod Platforms
+pub mod Schedules
+pub mod Replays
