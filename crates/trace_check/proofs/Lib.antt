@@ -1,0 +1,9 @@
+pub mod Counting
+pub mod Announced
+pub mod FirstKept
+pub mod Relocated
+pub mod Speaking
+pub mod Keeping
+pub mod Rules
+pub mod Seeing
+pub mod Checking

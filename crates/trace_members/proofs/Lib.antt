@@ -1,0 +1,4 @@
+pub mod ImageKinds
+pub mod Changing
+pub mod FirstMembers
+pub mod Processors
