@@ -1,0 +1,5 @@
+pub mod Lines
+pub mod Readings
+pub mod Sofar
+pub mod Tracing
+pub mod Walking
