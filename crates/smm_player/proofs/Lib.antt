@@ -1,6 +1,5 @@
+pub mod CheckLemmas
+pub mod EndLemmas
 pub mod ImageLemmas
 pub mod LoadLemmas
 pub mod PlayLemmas
-pub mod ReplayLemmas
-mod ReportLemmas
-pub mod WordLemmas

@@ -16,17 +16,18 @@ use Rattle.schedule_file.specs.declared.error.ScheduleError.{ScheduleError}
 use Rattle.schedule_file.specs.declared.error.ScheduleError.TheVariants as schedule
 use Rattle.platform_file.specs.Walk.{setup_read}
 use Rattle.schedule_file.specs.Schedule.{schedule_of}
+use Rattle.platform_document.specs.Reading.{read_then}
 use Rattle.smm_player.specs.declared.images.ImagesFault.TheVariants as fault
 use Rattle.smm_player.specs.declared.refusal.Refusal.{Refusal}
-use Rattle.smm_player.specs.declared.refusal.Refusal.TheVariants.{Read, TooLong, Platform, Images, Schedule}
+use Rattle.smm_player.specs.declared.refusal.Refusal.TheVariants.{Read, TooLong, Platform, Images, Schedule, Trace}
 use Rattle.smm_player.specs.declared.fault.Fault.{Fault}
 use Rattle.smm_player.specs.declared.fault.Fault.TheVariants.{Refused, Write, Save, Memory}
 use Rattle.smm_player.specs.Fault.{platform_fault, images_fault, schedule_fault}
-use Rattle.smm_player.specs.Due.{Finding, and_then, or_refusal, loaded, file_due, platform_found, serving, judged, images_found, schedule_found, without, schedule_due, relocated_or, started, plan_with, IsDue, RefusalCause}
+use Rattle.smm_player.specs.Due.{Finding, or_refusal, loaded, file_due, platform_found, serving, judged, images_found, schedule_found, without, schedule_due, relocated_or, started, plan_with, IsDue, RefusalCause}
 use Rattle.rendezvous_core.specs.Starts.{start_refusal}
 use Rattle.smbase_reloc.specs.declared.error.RelocError.{RelocError}
-use Rattle.smm_player.specs.declared.command.Step.{Step}
-use Rattle.smm_player.specs.Plan.{Plan, plan}
+use Rattle.smm_command.specs.declared.command.Step.{Step}
+use Rattle.replay_report.specs.Plan.{Plan, plan}
 use Rattle.smm_player.specs.Loading.{LoadCause, RefusedReading, StopsReading}
 
 -- the platform file
@@ -96,15 +97,15 @@ schedule_stops processors bytes schedule.NoMemory why = tt
 -- one step after another
 
 -- the second step works on what is due by the first
-pub IsDue-then : {A B : Type 0} (first : FileMap → Finding A) (next : A → FileMap → Finding B) (files : Option FileMap) (a : A) (b : B) → IsDue first files a → IsDue (next a) files b → IsDue (λ held. and_then (first held) (λ x. next x held)) files b
+pub IsDue-then : {A B : Type 0} (first : FileMap → Finding A) (next : A → FileMap → Finding B) (files : Option FileMap) (a : A) (b : B) → IsDue first files a → IsDue (next a) files b → IsDue (λ held. read_then (first held) (λ x. next x held)) files b
 IsDue-then first next None a b due second = tt
-IsDue-then first next (Some held) a b due second = ap (λ r. and_then r (λ x. next x held)) due ∙ second
+IsDue-then first next (Some held) a b due second = ap (λ r. read_then r (λ x. next x held)) due ∙ second
 
 -- a refusal of the first step is one of both
-refused_first : {A B : Type 0} (first : FileMap → Finding A) (next : A → FileMap → Finding B) (held : FileMap) (refusal : Refusal) → first held ≡ Err refusal → and_then (first held) (λ x. next x held) ≡ Err refusal
-refused_first first next held refusal is = ap (λ r. and_then r (λ x. next x held)) is
+refused_first : {A B : Type 0} (first : FileMap → Finding A) (next : A → FileMap → Finding B) (held : FileMap) (refusal : Refusal) → first held ≡ Err refusal → read_then (first held) (λ x. next x held) ≡ Err refusal
+refused_first first next held refusal is = ap (λ r. read_then r (λ x. next x held)) is
 
-pub cause_first : {A B : Type 0} (first : FileMap → Finding A) (next : A → FileMap → Finding B) (files : Option FileMap) (failed : Type 0) (refusal : Refusal) → RefusalCause first files failed refusal → RefusalCause (λ held. and_then (first held) (λ x. next x held)) files failed refusal
+pub cause_first : {A B : Type 0} (first : FileMap → Finding A) (next : A → FileMap → Finding B) (files : Option FileMap) (failed : Type 0) (refusal : Refusal) → RefusalCause first files failed refusal → RefusalCause (λ held. read_then (first held) (λ x. next x held)) files failed refusal
 cause_first first next None failed (Read name) cause = cause
 cause_first first next (Some held) failed (Read name) cause = elim cause [ inl is ↦ inl (refused_first first next held (Read name) is) | inr x ↦ inr (x.0, refused_first first next (without name held) (Read name) x.1) ]
 cause_first first next None failed (TooLong name limit) cause = cause
@@ -114,9 +115,11 @@ cause_first first next (Some held) failed (Platform error) cause = refused_first
 cause_first first next None failed (Images error) cause = tt
 cause_first first next (Some held) failed (Images error) cause = refused_first first next held (Images error) cause
 cause_first first next None failed (Schedule error) cause = tt
+cause_first first next None failed (Trace error) cause = tt
 cause_first first next (Some held) failed (Schedule error) cause = refused_first first next held (Schedule error) cause
+cause_first first next (Some held) failed (Trace error) cause = refused_first first next held (Trace error) cause
 
-pub stop_first : {A B : Type 0} (first : FileMap → Finding A) (next : A → FileMap → Finding B) (files : Option FileMap) (failed : Type 0) (fault : Fault) → LoadCause first files failed fault → LoadCause (λ held. and_then (first held) (λ x. next x held)) files failed fault
+pub stop_first : {A B : Type 0} (first : FileMap → Finding A) (next : A → FileMap → Finding B) (files : Option FileMap) (failed : Type 0) (fault : Fault) → LoadCause first files failed fault → LoadCause (λ held. read_then (first held) (λ x. next x held)) files failed fault
 stop_first first next files failed (Refused refusal) cause = cause_first first next files failed refusal cause
 stop_first first next files failed Write cause = cause
 stop_first first next files failed Save cause = cause
@@ -127,11 +130,11 @@ abbrev pub IsSteady : {A : Type 0} → (FileMap → Finding A) → Type 0
 IsSteady first = (held : FileMap) (name : List ℕ) → (first (without name held) ≡ first held) ⊎ (first (without name held) ≡ Err (Read name))
 
 -- a refusal of the second step, where the first found what is due
-refused_second : {A B : Type 0} (first : FileMap → Finding A) (next : A → FileMap → Finding B) (held : FileMap) (a : A) (refusal : Refusal) → first held ≡ Ok a → next a held ≡ Err refusal → and_then (first held) (λ x. next x held) ≡ Err refusal
-refused_second first next held a refusal due is = ap (λ r. and_then r (λ x. next x held)) due ∙ is
+refused_second : {A B : Type 0} (first : FileMap → Finding A) (next : A → FileMap → Finding B) (held : FileMap) (a : A) (refusal : Refusal) → first held ≡ Ok a → next a held ≡ Err refusal → read_then (first held) (λ x. next x held) ≡ Err refusal
+refused_second first next held a refusal due is = ap (λ r. read_then r (λ x. next x held)) due ∙ is
 
 unread_second : {A B : Type 0} (first : FileMap → Finding A) (next : A → FileMap → Finding B) → IsSteady first → (held : FileMap) (a : A) (name : List ℕ) → first held ≡ Ok a → next a (without name held) ≡ Err (Read name) →
-    and_then (first (without name held)) (λ x. next x (without name held)) ≡ Err (Read name)
+    read_then (first (without name held)) (λ x. next x (without name held)) ≡ Err (Read name)
 unread_second first next steady held a name due is =
     elim (steady held name) [
       | inl same ↦ refused_second first next (without name held) a (Read name) (same ∙ due) is
@@ -139,7 +142,7 @@ unread_second first next steady held a name due is =
     ]
 
 cause_second : {A B : Type 0} (first : FileMap → Finding A) (next : A → FileMap → Finding B) → IsSteady first → (files : Option FileMap) (failed : Type 0) (a : A) (refusal : Refusal) → IsDue first files a → RefusalCause (next a) files failed refusal →
-    RefusalCause (λ held. and_then (first held) (λ x. next x held)) files failed refusal
+    RefusalCause (λ held. read_then (first held) (λ x. next x held)) files failed refusal
 cause_second first next steady None failed a (Read name) due cause = cause
 cause_second first next steady (Some held) failed a (Read name) due cause = elim cause [ inl is ↦ inl (refused_second first next held a (Read name) due is) | inr x ↦ inr (x.0, unread_second first next steady held a name due x.1) ]
 cause_second first next steady None failed a (TooLong name limit) due cause = cause
@@ -149,10 +152,12 @@ cause_second first next steady (Some held) failed a (Platform error) due cause =
 cause_second first next steady None failed a (Images error) due cause = tt
 cause_second first next steady (Some held) failed a (Images error) due cause = refused_second first next held a (Images error) due cause
 cause_second first next steady None failed a (Schedule error) due cause = tt
+cause_second first next steady None failed a (Trace error) due cause = tt
 cause_second first next steady (Some held) failed a (Schedule error) due cause = refused_second first next held a (Schedule error) due cause
+cause_second first next steady (Some held) failed a (Trace error) due cause = refused_second first next held a (Trace error) due cause
 
 pub stop_second : {A B : Type 0} (first : FileMap → Finding A) (next : A → FileMap → Finding B) → IsSteady first → (files : Option FileMap) (failed : Type 0) (a : A) (fault : Fault) → IsDue first files a → LoadCause (next a) files failed fault →
-    LoadCause (λ held. and_then (first held) (λ x. next x held)) files failed fault
+    LoadCause (λ held. read_then (first held) (λ x. next x held)) files failed fault
 stop_second first next steady files failed a (Refused refusal) due cause = cause_second first next steady files failed a refusal due cause
 stop_second first next steady files failed a Write due cause = cause
 stop_second first next steady files failed a Save due cause = cause
@@ -168,7 +173,7 @@ load_steady limit name held other = loaded_without (bytes_eq name other) limit n
 
 pub file_steady : {A : Type 0} (limit : ℕ) (name : List ℕ) (read : List ℕ → Finding A) → IsSteady (file_due limit name read)
 file_steady limit name read held other =
-    elim (load_steady limit name held other) [ inl same ↦ inl (ap (λ r. and_then r read) same) | inr stops ↦ inr (ap (λ r. and_then r read) stops) ]
+    elim (load_steady limit name held other) [ inl same ↦ inl (ap (λ r. read_then r read) same) | inr stops ↦ inr (ap (λ r. read_then r read) stops) ]
 
 -- what stops the reading of a file that was loaded is the cause of a step that finds the same in any files
 read_cause : {A : Type 0} (found : Finding A) (files : Option FileMap) (failed : Type 0) (refusal : Refusal) → RefusedReading found refusal → RefusalCause (λ _. found) files failed refusal
@@ -179,7 +184,9 @@ read_cause found (Some held) failed (Platform error) stops = stops
 read_cause found None failed (Images error) stops = tt
 read_cause found (Some held) failed (Images error) stops = stops
 read_cause found None failed (Schedule error) stops = tt
+read_cause found None failed (Trace error) stops = tt
 read_cause found (Some held) failed (Schedule error) stops = stops
+read_cause found (Some held) failed (Trace error) stops = stops
 
 pub stop_cause : {A : Type 0} (found : Finding A) (files : Option FileMap) (failed : Type 0) (fault : Fault) → StopsReading found fault → LoadCause (λ _. found) files failed fault
 stop_cause found files failed (Refused refusal) stops = read_cause found files failed refusal stops
@@ -212,6 +219,7 @@ wider_cause judge (Some held) f g (TooLong name limit) wider cause = cause
 wider_cause judge files f g (Platform error) wider cause = cause
 wider_cause judge files f g (Images error) wider cause = cause
 wider_cause judge files f g (Schedule error) wider cause = cause
+wider_cause judge files f g (Trace error) wider cause = cause
 
 pub wider_stop : {A : Type 0} (judge : FileMap → Finding A) (files : Option FileMap) (f g : Type 0) (fault : Fault) → (f → g) → LoadCause judge files f fault → LoadCause judge files g fault
 wider_stop judge files f g (Refused refusal) wider cause = wider_cause judge files f g refusal wider cause
@@ -221,13 +229,13 @@ wider_stop judge files f g Memory wider cause = tt
 
 -- the second step, in a later part of the call: what it finds is due, and what stops it is the cause
 pub then_found : {A B V : Type 0} (view : V → B) (first : FileMap → Finding A) (next : A → FileMap → Finding B) (files files' : Option FileMap) (a : A) (r : Result V Fault) → files' ≡ files → IsDue first files a →
-    IfOk r (λ value. IsDue (next a) files' (view value)) → IfOk r (λ value. IsDue (λ held. and_then (first held) (λ x. next x held)) files (view value))
+    IfOk r (λ value. IsDue (next a) files' (view value)) → IfOk r (λ value. IsDue (λ held. read_then (first held) (λ x. next x held)) files (view value))
 then_found view first next files files' a (Ok value) stay due found =
     let P : Option FileMap → Type 0 = λ fs. IsDue (next a) fs (view value) in IsDue-then first next files a (view value) due (subst P stay found)
 then_found view first next files files' a (Err stopped) stay due found = tt
 
 pub then_stops : {A B V : Type 0} (first : FileMap → Finding A) (next : A → FileMap → Finding B) → IsSteady first → (files files' : Option FileMap) (f g : Type 0) (a : A) (r : Result V Fault) → files' ≡ files → (f → g) → IsDue first files a →
-    IfErr r (LoadCause (next a) files' f) → IfErr r (LoadCause (λ held. and_then (first held) (λ x. next x held)) files g)
+    IfErr r (LoadCause (next a) files' f) → IfErr r (LoadCause (λ held. read_then (first held) (λ x. next x held)) files g)
 then_stops first next steady files files' f g a (Ok value) stay wider due stops = tt
 then_stops first next steady files files' f g a (Err stopped) stay wider due stops =
     let P : Option FileMap → Type 0 = λ fs. LoadCause (next a) fs f stopped in
@@ -241,12 +249,12 @@ started_is p none = ap (λ o. relocated_or o p) none
 started_not : (p : Plan) (error : RelocError) → start_refusal p.setup p.images ≡ Some error → started p ≡ Err (Images (fault.NotRelocated error))
 started_not p error some = ap (λ o. relocated_or o p) some
 
-pub plan_due_with : (names : Step) (setup : SetupData) (images : List ImageContents) (files : Option FileMap) (actors : List ℕ) → start_refusal setup images ≡ None → IsDue (schedule_due names setup) files actors → IsDue (plan_with names setup images) files (plan setup images actors)
+pub plan_due_with : (names : Step) (setup : SetupData) (images : List ImageContents) (files : Option FileMap) (actors : List ℕ) → start_refusal setup images ≡ None → IsDue (schedule_due names.schedule setup) files actors → IsDue (plan_with names setup images) files (plan setup images actors)
 plan_due_with names setup images None actors none is = tt
-plan_due_with names setup images (Some held) actors none is = ap (λ r. and_then r (λ xs. started (plan setup images xs))) is ∙ started_is (plan setup images actors) none
+plan_due_with names setup images (Some held) actors none is = ap (λ r. read_then r (λ xs. started (plan setup images xs))) is ∙ started_is (plan setup images actors) none
 
 -- and the refusal of a relocation
-pub not_relocated : (names : Step) (setup : SetupData) (images : List ImageContents) (files : Option FileMap) (failed : Type 0) (actors : List ℕ) (error : RelocError) → start_refusal setup images ≡ Some error → IsDue (schedule_due names setup) files actors →
+pub not_relocated : (names : Step) (setup : SetupData) (images : List ImageContents) (files : Option FileMap) (failed : Type 0) (actors : List ℕ) (error : RelocError) → start_refusal setup images ≡ Some error → IsDue (schedule_due names.schedule setup) files actors →
     LoadCause (plan_with names setup images) files failed (Refused (Images (fault.NotRelocated error)))
 not_relocated names setup images None failed actors error some is = tt
-not_relocated names setup images (Some held) failed actors error some is = ap (λ r. and_then r (λ xs. started (plan setup images xs))) is ∙ started_not (plan setup images actors) error some
+not_relocated names setup images (Some held) failed actors error some is = ap (λ r. read_then r (λ xs. started (plan setup images xs))) is ∙ started_not (plan setup images actors) error some

@@ -9,24 +9,25 @@ use Rattle.image_file.specs.declared.error.ImagesError.{ImagesError}
 use Rattle.image_file.specs.Refusals.{refusal_of}
 use Rattle.image_file.specs.Contents.{images_in}
 use Rattle.cpu_table.specs.Data.{SetupData}
+use Rattle.platform_document.specs.Reading.{read_then}
 use Rattle.platform_file.specs.Walk.{setup_read}
 use Rattle.schedule_file.specs.Schedule.{schedule_of}
 use Rattle.smbase_reloc.specs.declared.error.RelocError.{RelocError}
-use Rattle.rendezvous_core.specs.Starts.{start_refusal}
-use Rattle.smm_player.specs.declared.command.Step.{Step}
+use Rattle.rendezvous_core.specs.Starts.{start_refusal, first_registers}
+use Rattle.trace_check.specs.Judged.{first_judged}
+use Rattle.trace_judge.specs.declared.fault.TraceFault.{TraceFault}
+use Rattle.trace_judge.specs.Verdicts.{verdict}
+use Rattle.smm_command.specs.declared.command.Step.{Step}
+use Rattle.smm_command.specs.declared.command.Check.{Check}
 use Rattle.smm_player.specs.declared.images.ImagesFault.TheVariants as fault
 use Rattle.smm_player.specs.declared.refusal.Refusal.{Refusal}
-use Rattle.smm_player.specs.declared.refusal.Refusal.TheVariants.{Read, TooLong, Platform, Images, Schedule}
-use Rattle.smm_player.specs.Plan.{Plan, plan}
+use Rattle.smm_player.specs.declared.refusal.Refusal.TheVariants.{Read, TooLong, Platform, Images, Schedule, Trace}
+use Rattle.replay_report.specs.Plan.{Plan, plan}
+use Rattle.smm_player.specs.Traces.{TracePlan, trace_plan}
 
 -- what is found, or the refusal at which the work stops
 abbrev pub Finding : Type 0 → Type 0
 Finding A = Result A Refusal
-
--- a second step works on what the first one found
-abbrev pub and_then : {A B : Type 0} → Finding A → (A → Finding B) → Finding B
-and_then (Ok found) next = next found
-and_then (Err refusal) next = Err refusal
 
 -- what a reader answers, with its errors as refusals
 abbrev pub or_refusal : {A E : Type 0} → (E → Refusal) → Result A E → Finding A
@@ -43,6 +44,9 @@ images_limit = 65548
 abbrev pub schedule_limit : ℕ
 schedule_limit = 4194304
 
+abbrev pub trace_limit : ℕ
+trace_limit = 536870912
+
 -- the bytes of an input file: refused where the name isn't held, or where the file is longer than its limit
 abbrev pub loaded : ℕ → List ℕ → Option (List ℕ) → Finding (List ℕ)
 loaded limit name None = Err (Read name)
@@ -50,7 +54,7 @@ loaded limit name (Some bytes) = if nat_lt limit (length bytes) then Err (TooLon
 
 -- what a reader finds in an input file
 abbrev pub file_due : {A : Type 0} → ℕ → List ℕ → (List ℕ → Finding A) → FileMap → Finding A
-file_due limit name read held = and_then (loaded limit name (held name)) read
+file_due limit name read held = read_then (loaded limit name (held name)) read
 
 -- the setup of a platform file
 abbrev pub platform_found : List ℕ → Finding SetupData
@@ -89,15 +93,15 @@ images_found kind processors bytes = judged kind processors (refusal_of bytes) (
 abbrev pub schedule_found : ℕ → List ℕ → Finding (List ℕ)
 schedule_found processors bytes = or_refusal Schedule (schedule_of processors bytes)
 
--- what is found in each input file of a step
-abbrev pub platform_due : Step → FileMap → Finding SetupData
-platform_due names = file_due platform_limit names.platform platform_found
+-- what is found in each input file, by its name
+abbrev pub platform_due : List ℕ → FileMap → Finding SetupData
+platform_due name = file_due platform_limit name platform_found
 
-abbrev pub images_due : Step → SetupData → FileMap → Finding (List ImageContents)
-images_due names setup = file_due images_limit names.images (images_found setup.kind setup.processors)
+abbrev pub images_due : List ℕ → SetupData → FileMap → Finding (List ImageContents)
+images_due name setup = file_due images_limit name (images_found setup.kind setup.processors)
 
-abbrev pub schedule_due : Step → SetupData → FileMap → Finding (List ℕ)
-schedule_due names setup = file_due schedule_limit names.schedule (schedule_found setup.processors)
+abbrev pub schedule_due : List ℕ → SetupData → FileMap → Finding (List ℕ)
+schedule_due name setup = file_due schedule_limit name (schedule_found setup.processors)
 
 -- a plan whose processors can begin with their images
 abbrev pub relocated_or : Option RelocError → Plan → Finding Plan
@@ -109,15 +113,38 @@ started p = relocated_or (start_refusal p.setup p.images) p
 
 -- what a step works on once the platform and the images are there: the schedule comes last, and then the room is taken
 abbrev pub plan_with : Step → SetupData → List ImageContents → FileMap → Finding Plan
-plan_with names setup images held = and_then (schedule_due names setup held) (λ actors. started (plan setup images actors))
+plan_with names setup images held = read_then (schedule_due names.schedule setup held) (λ actors. started (plan setup images actors))
 
 -- what a step works on once the platform is there: the images come before the schedule
 abbrev pub plan_on : Step → SetupData → FileMap → Finding Plan
-plan_on names setup held = and_then (images_due names setup held) (λ images. plan_with names setup images held)
+plan_on names setup held = read_then (images_due names.images setup held) (λ images. plan_with names setup images held)
 
 -- what a step works on: the platform comes first
 abbrev pub plan_due : Step → FileMap → Finding Plan
-plan_due names held = and_then (platform_due names held) (λ setup. plan_on names setup held)
+plan_due names held = read_then (platform_due names.platform held) (λ setup. plan_on names setup held)
+
+-- the bytes of a trace
+abbrev pub trace_due : List ℕ → FileMap → Finding (List ℕ)
+trace_due name held = loaded trace_limit name (held name)
+
+-- what a check works on: the platform, the images, and then the trace
+abbrev pub trace_with : Check → SetupData → List ImageContents → FileMap → Finding TracePlan
+trace_with names setup images held = read_then (trace_due names.trace held) (λ bytes. Ok (trace_plan setup images bytes))
+
+abbrev pub trace_on : Check → SetupData → FileMap → Finding TracePlan
+trace_on names setup held = read_then (images_due names.images setup held) (λ images. trace_with names setup images held)
+
+abbrev pub trace_plan_due : Check → FileMap → Finding TracePlan
+trace_plan_due names held = read_then (platform_due names.platform held) (λ setup. trace_on names setup held)
+
+-- a trace is judged where the processors can begin with their images
+abbrev pub judged_or : Option RelocError → Result (Unit {0}) TraceFault → Finding (Unit {0})
+judged_or None verdict = or_refusal Trace verdict
+judged_or (Some error) verdict = Err (Images (fault.NotRelocated error))
+
+unfoldable pub trace_judged : TracePlan → Finding (Unit {0})
+trace_judged p =
+    judged_or (start_refusal p.setup p.images) (verdict p.setup.processors (first_judged p.setup (first_registers p.setup p.images) p.images) p.bytes)
 
 -- the held files but for one name
 abbrev pub without : List ℕ → FileMap → FileMap
@@ -141,3 +168,4 @@ RefusalCause judge files failed (TooLong name limit) = MatchOption files failed 
 RefusalCause judge files failed (Platform error) = IfSome files (λ held. judge held ≡ Err (Platform error))
 RefusalCause judge files failed (Images error) = IfSome files (λ held. judge held ≡ Err (Images error))
 RefusalCause judge files failed (Schedule error) = IfSome files (λ held. judge held ≡ Err (Schedule error))
+RefusalCause judge files failed (Trace error) = IfSome files (λ held. judge held ≡ Err (Trace error))

@@ -1,8 +1,10 @@
 -- How a command ends at a fault: with its status, and with its line.
-use Rattle.std.specs.Prelude.{ℕ, ◌≡◌, ◌⊎◌, List, Option}
+use Rattle.std.specs.Prelude.{ℕ, ◌≡◌, ◌⊎◌, List, Option, Ok}
 use Rattle.smm_base.specs.Sink.{appended, GainsPrefix}
 use Rattle.smm_player.specs.declared.fault.Fault.{Fault}
 use Rattle.smm_player.specs.declared.fault.Fault.TheVariants.{Refused, Write, Save, Memory}
+use Rattle.smm_player.specs.Due.{Finding}
+use Rattle.smm_player.specs.Loading.{RefusedReading}
 use Rattle.smm_player.specs.Refusal.{refusal_status, refusal_line, memory_line}
 
 -- a front part of one piece was written, and then a front part of another
@@ -24,6 +26,21 @@ Finishes write_failed before after status (Refused refusal) = TellsOrRunsOut wri
 Finishes write_failed before after status Write = (status ≡ 7) × (after ≡ before)
 Finishes write_failed before after status Save = (status ≡ 7) × (after ≡ before)
 Finishes write_failed before after status Memory = (status ≡ 8) × GainsPrefix before after memory_line
+
+-- How a command that only writes ends at a fault: at a failed write, or for want of memory, with a front part of its bytes.
+abbrev pub EndsWriting : Type 0 → Option (List ℕ) → Option (List ℕ) → List ℕ → Fault → Type 0
+EndsWriting write_failed before after bytes (Refused refusal) = ⊥
+EndsWriting write_failed before after bytes Write = write_failed × GainsPrefix before after bytes
+EndsWriting write_failed before after bytes Save = ⊥
+EndsWriting write_failed before after bytes Memory = GainsPrefix before after bytes
+
+-- How a check ends at a fault once its files are loaded: what it found is refused, and nothing was written; or it found a run,
+-- and the write failed; or there was no memory.
+abbrev pub EndsJudging : Type 0 → Finding (Unit {0}) → Option (List ℕ) → Option (List ℕ) → List ℕ → Fault → Type 0
+EndsJudging write_failed found before after bytes (Refused refusal) = RefusedReading found refusal × (after ≡ before)
+EndsJudging write_failed found before after bytes Write = write_failed × (found ≡ Ok tt) × GainsPrefix before after bytes
+EndsJudging write_failed found before after bytes Save = ⊥
+EndsJudging write_failed found before after bytes Memory = (after ≡ before) ⊎ ((found ≡ Ok tt) × GainsPrefix before after bytes)
 
 -- How a replay ends at a fault: at a failed write with a front part of the report, at a failed save with all of it, and
 -- for want of memory with a front part.

@@ -1,14 +1,9 @@
-pub mod Commands
 pub mod Due
 pub mod Ending
 pub mod Fault
-pub mod Lines
 pub mod Loading
 pub mod Outcome
 pub mod Performing
-pub mod Plan
 pub mod Play
 pub mod Refusal
-pub mod ReplayInside
-pub mod Replays
-pub mod Report
+pub mod Traces

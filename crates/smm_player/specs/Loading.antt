@@ -6,7 +6,7 @@ use Rattle.smm_base.specs.declared.store.LoadError.TheVariants as load
 use Rattle.smm_player.specs.declared.fault.Fault.{Fault}
 use Rattle.smm_player.specs.declared.fault.Fault.TheVariants.{Refused, Write, Save, Memory}
 use Rattle.smm_player.specs.declared.refusal.Refusal.{Refusal}
-use Rattle.smm_player.specs.declared.refusal.Refusal.TheVariants.{Read, TooLong, Platform, Images, Schedule}
+use Rattle.smm_player.specs.declared.refusal.Refusal.TheVariants.{Read, TooLong, Platform, Images, Schedule, Trace}
 use Rattle.smm_player.specs.Due.{Finding, RefusalCause}
 
 -- the refusal, or want of memory
@@ -34,6 +34,7 @@ RefusedReading found (TooLong name limit) = ⊥
 RefusedReading found (Platform error) = found ≡ Err (Platform error)
 RefusedReading found (Images error) = found ≡ Err (Images error)
 RefusedReading found (Schedule error) = found ≡ Err (Schedule error)
+RefusedReading found (Trace error) = found ≡ Err (Trace error)
 
 -- a fault at which the reading of a file stops: there is no memory, or what the file holds is refused
 abbrev pub StopsReading : {A : Type 0} → Finding A → Fault → Type 0

@@ -5,10 +5,11 @@ use Rattle.image_file.specs.Texts.{images_error_text}
 use Rattle.platform_file.specs.Texts.{platform_error_text}
 use Rattle.schedule_file.specs.Texts.{schedule_error_text}
 use Rattle.smbase_reloc.specs.Words.{refusal_text as relocation_text}
+use Rattle.trace_judge.specs.Verdicts.{trace_fault_text}
 use Rattle.smm_player.specs.declared.images.ImagesFault.{ImagesFault}
 use Rattle.smm_player.specs.declared.images.ImagesFault.TheVariants.{File, KindDiffers, CountDiffers, NotRelocated}
 use Rattle.smm_player.specs.declared.refusal.Refusal.{Refusal}
-use Rattle.smm_player.specs.declared.refusal.Refusal.TheVariants.{Read, TooLong, Platform, Images, Schedule}
+use Rattle.smm_player.specs.declared.refusal.Refusal.TheVariants.{Read, TooLong, Platform, Images, Schedule, Trace}
 
 -- the exit status of a refused input file
 abbrev pub refusal_status : Refusal → ℕ
@@ -17,6 +18,7 @@ refusal_status (TooLong name limit) = 6
 refusal_status (Platform error) = 2
 refusal_status (Images fault) = 3
 refusal_status (Schedule error) = 4
+refusal_status (Trace fault) = 5
 
 -- why the image file doesn't serve
 abbrev pub images_fault_text : ImagesFault → List ℕ
@@ -32,6 +34,7 @@ fault_text (TooLong name limit) = codes "fault too-long " ++ name ++ codes " " +
 fault_text (Platform error) = codes "fault platform " ++ platform_error_text error
 fault_text (Images fault) = codes "fault images " ++ images_fault_text fault
 fault_text (Schedule error) = codes "fault schedule " ++ schedule_error_text error
+fault_text (Trace fault) = codes "fault trace " ++ trace_fault_text fault
 
 -- the line that tells it, with the line end 0AH
 unfoldable pub refusal_line : Refusal → List ℕ

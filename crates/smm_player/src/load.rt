@@ -4,21 +4,21 @@ ghost use Rattle.smm_base.specs.Faults.{Rose};
 ghost use Rattle.cpu_table.specs.Data.{data_of};
 ghost use Rattle.rendezvous_core.specs.Starts.{AreImagesOf};
 ghost use Rattle.smm_player.specs.declared.refusal.Refusal.TheVariants.{Read as read, TooLong as too_long};
-ghost use Rattle.smm_player.specs.Plan.{plan_of, IsPlayable};
+ghost use Rattle.replay_report.specs.Plan.{plan_of, IsPlayable};
 ghost use Rattle.smm_player.specs.Due.{loaded, platform_found, platform_due, images_found, images_due, schedule_found, schedule_due, plan_with, plan_on, plan_due, IsDue};
 ghost use Rattle.smm_player.specs.Loading.{IsLoadFault, IsRefusedFor, LoadCause, StopsReading};
 
-use crate::command::Step;
 use crate::fault::{Fault, images_fault, platform_fault, schedule_fault};
 use crate::images::{ImagesFault, serving};
-use crate::inputs::Inputs;
 use crate::refusal::Refusal;
 use cpu_table::{Setup, Text};
 use image_file::read_images;
 use platform_file::{read_platform, read_schedule};
 use rendezvous_core::start_fault;
+use replay_report::Inputs;
 use save_state_map::Image;
 use smm_base::{LoadError, MapKind, Store};
+use smm_command::Step;
 use std::alloc::Global;
 
 /// How many bytes a platform file has at most.
@@ -63,7 +63,7 @@ fn load_fault(alloc: Global, name: &Text, limit: u64, error: LoadError) -> Fault
 }
 
 // The bytes of an input file.
-fn load_file<F: Store>(
+pub(crate) fn load_file<F: Store>(
     alloc: Global,
     name: &Text,
     limit: u64,
@@ -92,13 +92,17 @@ fn setup_of(alloc: Global, bytes: &[u8]) -> Result<Setup, Fault>
 }
 
 // Loads the platform, and reads it.
-fn load_platform<F: Store>(alloc: Global, names: &Step, store: &mut F) -> Result<Setup, Fault>
-    ensures due { IfOk result (λ setup. IsDue (platform_due names.now) (F.files store.old) (data_of setup)) }
-    ensures cause { IfErr result (LoadCause (platform_due names.now) (F.files store.old) (Rose (F.failed_loads store.old) (F.failed_loads store.new))) }
+pub(crate) fn load_platform<F: Store>(
+    alloc: Global,
+    name: &Text,
+    store: &mut F,
+) -> Result<Setup, Fault>
+    ensures due { IfOk result (λ setup. IsDue (platform_due name.now) (F.files store.old) (data_of setup)) }
+    ensures cause { IfErr result (LoadCause (platform_due name.now) (F.files store.old) (Rose (F.failed_loads store.old) (F.failed_loads store.new))) }
     ensures files_stay { F.files store.new ≡ F.files store.old }
     ensures moved { Leads F.moves store.old store.new }
 {
-    match load_file(alloc, &names.platform, PLATFORM_LIMIT, store) {
+    match load_file(alloc, name, PLATFORM_LIMIT, store) {
         Ok(bytes) => setup_of(alloc, &bytes),
         Err(fault) => Err(fault),
     }
@@ -123,19 +127,19 @@ fn images_of(
 }
 
 // Loads the images, and reads them.
-fn load_images<F: Store>(
+pub(crate) fn load_images<F: Store>(
     alloc: Global,
-    names: &Step,
+    name: &Text,
     setup: &Setup,
     store: &mut F,
 ) -> Result<Vec<Image>, Fault>
     ensures serve { IfOk result (λ images. AreImagesOf (data_of setup.now) images.items) }
-    ensures due { IfOk result (λ images. IsDue (images_due names.now (data_of setup.now)) (F.files store.old) images.items) }
-    ensures cause { IfErr result (LoadCause (images_due names.now (data_of setup.now)) (F.files store.old) (Rose (F.failed_loads store.old) (F.failed_loads store.new))) }
+    ensures due { IfOk result (λ images. IsDue (images_due name.now (data_of setup.now)) (F.files store.old) images.items) }
+    ensures cause { IfErr result (LoadCause (images_due name.now (data_of setup.now)) (F.files store.old) (Rose (F.failed_loads store.old) (F.failed_loads store.new))) }
     ensures files_stay { F.files store.new ≡ F.files store.old }
     ensures moved { Leads F.moves store.old store.new }
 {
-    match load_file(alloc, &names.images, IMAGES_LIMIT, store) {
+    match load_file(alloc, name, IMAGES_LIMIT, store) {
         Ok(bytes) => images_of(alloc, &bytes, setup.kind, setup.processors),
         Err(fault) => Err(fault),
     }
@@ -156,17 +160,17 @@ fn actors_of(alloc: Global, bytes: &[u8], processors: u16) -> Result<Vec<u16>, F
 // Loads the schedule, and reads it.
 fn load_schedule<F: Store>(
     alloc: Global,
-    names: &Step,
+    name: &Text,
     setup: &Setup,
     store: &mut F,
 ) -> Result<Vec<u16>, Fault>
     ensures known { IfOk result (λ actors. All (λ actor. actor ≤ setup.now.processors) actors.items) }
-    ensures due { IfOk result (λ actors. IsDue (schedule_due names.now (data_of setup.now)) (F.files store.old) actors.items) }
-    ensures cause { IfErr result (LoadCause (schedule_due names.now (data_of setup.now)) (F.files store.old) (Rose (F.failed_loads store.old) (F.failed_loads store.new))) }
+    ensures due { IfOk result (λ actors. IsDue (schedule_due name.now (data_of setup.now)) (F.files store.old) actors.items) }
+    ensures cause { IfErr result (LoadCause (schedule_due name.now (data_of setup.now)) (F.files store.old) (Rose (F.failed_loads store.old) (F.failed_loads store.new))) }
     ensures files_stay { F.files store.new ≡ F.files store.old }
     ensures moved { Leads F.moves store.old store.new }
 {
-    match load_file(alloc, &names.schedule, SCHEDULE_LIMIT, store) {
+    match load_file(alloc, name, SCHEDULE_LIMIT, store) {
         Ok(bytes) => actors_of(alloc, &bytes, setup.processors),
         Err(fault) => Err(fault),
     }
@@ -187,7 +191,7 @@ fn load_with<F: Store>(
     ensures files_stay { F.files store.new ≡ F.files store.old }
     ensures moved { Leads F.moves store.old store.new }
 {
-    match load_schedule(alloc, names, &setup, store) {
+    match load_schedule(alloc, &names.schedule, &setup, store) {
         Ok(actors) => {
             match start_fault(&setup, &images) {
                 None => {
@@ -219,7 +223,7 @@ fn load_on<F: Store>(
     ensures files_stay { F.files store.new ≡ F.files store.old }
     ensures moved { Leads F.moves store.old store.new }
 {
-    match load_images(alloc, names, &setup, store) {
+    match load_images(alloc, &names.images, &setup, store) {
         Ok(images) => load_with(alloc, names, setup, images, store),
         Err(fault) => Err(fault),
     }
@@ -237,7 +241,7 @@ pub(crate) fn load_inputs<F: Store>(
     ensures files_stay { F.files store.new ≡ F.files store.old }
     ensures moved { Leads F.moves store.old store.new }
 {
-    match load_platform(alloc, names, store) {
+    match load_platform(alloc, &names.platform, store) {
         Ok(setup) => load_on(alloc, names, setup, store),
         Err(fault) => Err(fault),
     }

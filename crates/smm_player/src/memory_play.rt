@@ -1,7 +1,7 @@
 ghost use Rattle.std.specs.Prelude.{◌≡◌, ◌⊎◌, ◌<◌, ◌-◌, ◌^◌, [], IsOk, IsSomeAnd};
 ghost use Rattle.smm_base.specs.MemSink.{FaultlessSink};
 ghost use Rattle.smm_base.specs.MemStore.{file_of, FaultlessStore};
-ghost use Rattle.smm_player.specs.Commands.{texts, form_of};
+ghost use Rattle.smm_command.specs.Commands.{texts, form_of};
 ghost use Rattle.smm_player.specs.Outcome.{due};
 
 use crate::playing::play;

@@ -2,21 +2,24 @@ ghost use Rattle.std.specs.Prelude.{◌≡◌, ◌≢◌, ◌⊎◌, IfErr, IfSo
 ghost use Rattle.smm_base.specs.Calls.{Leads};
 ghost use Rattle.smm_base.specs.Faults.{Rose};
 ghost use Rattle.smm_base.specs.Store.{ChangesOnly};
-ghost use Rattle.smm_player.specs.Commands.{texts, form_of};
+ghost use Rattle.smm_command.specs.Commands.{texts, form_of, IsCommand};
 ghost use Rattle.smm_player.specs.Ending.{Tells, UnlessSaved};
-ghost use Rattle.smm_player.specs.Outcome.{due, saved_name};
+ghost use Rattle.smm_player.specs.Outcome.{due, saved_name, ChangesOnlyNamed};
 ghost use Rattle.smm_player.specs.Performing.{Performs, StopsAt, WroteBefore};
 ghost use Rattle.smm_player.specs.Play.{is_exit_status, IsDone, IsPlayed, IsFaulted, FailsOutside, RunsOut, UsageRunsOut, IsDueStatus, ChangesOnlySaved, Obeys};
 ghost use Rattle.smm_player.specs.Refusal.{usage_line};
-ghost use Rattle.smm_player.specs.declared.command.Command.TheVariants.{Step as step_command};
+ghost use Rattle.smm_command.specs.declared.command.Command.TheVariants.{Step as step_command, Finish as finish_command, Check as check_command};
 
-use crate::command::{Command, Step, command_of};
+use crate::checking::{check_inputs, load_trace};
 use crate::ending::{end_without_memory, finish, tell};
 use crate::fault::Fault;
 use crate::load::load_inputs;
-use crate::step::replay_inputs;
+use crate::making::{make, sum};
+use crate::step::{finish_inputs, replay_inputs};
 use smm_base::{Sink, Store};
+use smm_command::{Check, Command, Step, command_of};
 use std::alloc::Global;
+use trace_judge::judge_laws;
 
 // Does a step.
 fn perform_step<F: Store, K: Sink>(
@@ -39,6 +42,48 @@ fn perform_step<F: Store, K: Sink>(
     }
 }
 
+// Does a finish.
+fn perform_finish<F: Store, K: Sink>(
+    alloc: Global,
+    names: &Step,
+    store: &mut F,
+    out: &mut K,
+) -> Result<(), Fault>
+    ensures done { OnOk result (Performs (finish_command names.now) (F.files store.old) (F.files store.new) (K.written out.old) (K.written out.new)) }
+    ensures cause { IfErr result (StopsAt (finish_command names.now) (F.files store.old) (Rose (F.failed_loads store.old) (F.failed_loads store.new)) (Rose (K.faults out.old) (K.faults out.new)) (Rose (F.failed_saves store.old) (F.failed_saves store.new))) }
+    ensures wrote { IfErr result (WroteBefore (finish_command names.now) (F.files store.old) (K.written out.old) (K.written out.new)) }
+    ensures unsaved { IfErr result (UnlessSaved (F.files store.new ≡ F.files store.old)) }
+    ensures others_stay { ChangesOnly names.now.after (F.files store.old) (F.files store.new) }
+    ensures store_moved { Leads F.moves store.old store.new }
+    ensures sink_moved { Leads K.moves out.old out.new }
+{
+    match load_inputs(alloc, names, store) {
+        Ok(inputs) => finish_inputs(alloc, &inputs, &names.after, store, out),
+        Err(fault) => Err(fault),
+    }
+}
+
+// Does a check.
+fn perform_check<F: Store, K: Sink>(
+    alloc: Global,
+    names: &Check,
+    store: &mut F,
+    out: &mut K,
+) -> Result<(), Fault>
+    ensures done { OnOk result (Performs (check_command names.now) (F.files store.old) (F.files store.new) (K.written out.old) (K.written out.new)) }
+    ensures cause { IfErr result (StopsAt (check_command names.now) (F.files store.old) (Rose (F.failed_loads store.old) (F.failed_loads store.new)) (Rose (K.faults out.old) (K.faults out.new)) (Rose (F.failed_saves store.old) (F.failed_saves store.new))) }
+    ensures wrote { IfErr result (WroteBefore (check_command names.now) (F.files store.old) (K.written out.old) (K.written out.new)) }
+    ensures unsaved { IfErr result (UnlessSaved (F.files store.new ≡ F.files store.old)) }
+    ensures others_stay { F.files store.new ≡ F.files store.old }
+    ensures store_moved { Leads F.moves store.old store.new }
+    ensures sink_moved { Leads K.moves out.old out.new }
+{
+    match load_trace(alloc, names, store) {
+        Ok(inputs) => check_inputs(alloc, &inputs, out),
+        Err(fault) => Err(fault),
+    }
+}
+
 // Does a command.
 fn perform<F: Store, K: Sink>(
     alloc: Global,
@@ -46,34 +91,48 @@ fn perform<F: Store, K: Sink>(
     store: &mut F,
     out: &mut K,
 ) -> Result<(), Fault>
+    requires in_range { IsCommand command.now }
     ensures done { OnOk result (Performs command.now (F.files store.old) (F.files store.new) (K.written out.old) (K.written out.new)) }
     ensures cause { IfErr result (StopsAt command.now (F.files store.old) (Rose (F.failed_loads store.old) (F.failed_loads store.new)) (Rose (K.faults out.old) (K.faults out.new)) (Rose (F.failed_saves store.old) (F.failed_saves store.new))) }
     ensures wrote { IfErr result (WroteBefore command.now (F.files store.old) (K.written out.old) (K.written out.new)) }
     ensures unsaved { IfErr result (UnlessSaved (F.files store.new ≡ F.files store.old)) }
-    ensures others_stay { ChangesOnly (saved_name command.now) (F.files store.old) (F.files store.new) }
+    ensures others_stay { ChangesOnlyNamed (saved_name command.now) (F.files store.old) (F.files store.new) }
     ensures store_moved { Leads F.moves store.old store.new }
     ensures sink_moved { Leads K.moves out.old out.new }
 {
     match command {
         Command::Step(names) => perform_step(alloc, names, store, out),
+        Command::Finish(names) => perform_finish(alloc, names, store, out),
+        Command::Check(names) => perform_check(alloc, names, store, out),
+        Command::Make(recipe) => make(alloc, *recipe, out),
+        Command::Sum(recipe) => sum(alloc, *recipe, out),
     }
 }
 
 // Does a command, and answers the exit status.
 fn obey<F: Store, K: Sink>(alloc: Global, command: &Command, store: &mut F, out: &mut K) -> u8
+    requires in_range { IsCommand command.now }
     ensures obeys { Obeys command.now (F.files store.old) (F.files store.new) (Rose (F.failed_loads store.old) (F.failed_loads store.new)) (Rose (K.faults out.old) (K.faults out.new)) (Rose (F.failed_saves store.old) (F.failed_saves store.new)) (K.written out.old) (K.written out.new) result }
     ensures store_moved { Leads F.moves store.old store.new }
     ensures sink_moved { Leads K.moves out.old out.new }
 {
+    judge_laws();
     let done = perform(alloc, command, store, out);
     finish(alloc, done, out)
 }
 
-/// Does the command of the words, and answers the exit status. There is one command yet, `step
-/// PLATFORM IMAGES SCHEDULE AFTER`: it replays the schedule on the platform, writes the report to the
-/// sink, and saves the images that the processors last resumed from, or their first ones, under the
-/// name AFTER, as an image file of the platform's kind. Every platform that a platform file can describe
-/// is played.
+/// Does the command of the words, and answers the exit status.
+///
+/// | words | what is done |
+/// |---|---|
+/// | `step PLATFORM IMAGES SCHEDULE AFTER` | replays the schedule on the platform, writes the report to the sink, and saves the images that the processors last resumed from, or their first ones, under the name AFTER, as an image file of the platform's kind |
+/// | `finish PLATFORM IMAGES SCHEDULE AFTER` | does what `step` does, but steps all actors round and round behind the schedule until every one is off |
+/// | `check PLATFORM IMAGES TRACE` | judges a report: writes `run` where its labels are a run of the rendezvous machine of the platform, from these images, and its last line has their numbers |
+/// | `make NUMBER N` | writes the platform file of N processors that is generated from NUMBER |
+/// | `sum NUMBER N` | replays 2,000 rounds of all actors on that platform, from images of zeros with the revision 30004H and the SMBASE 30000H, and writes the report's last line alone |
+///
+/// NUMBER is a decimal number up to 4,294,967,295, and N one from 1 to 64, without a sign and without
+/// leading zeros. No word begins with `-`. Every platform that a platform file can describe is played.
 ///
 /// | status | line | when |
 /// |---|---|---|
@@ -103,15 +162,18 @@ fn obey<F: Store, K: Sink>(alloc: Global, command: &Command, store: &mut F, out:
 /// | 4 | `fault schedule token AT` | the item that starts at the byte AT, counted from 0, is none |
 /// | 4 | `fault schedule actor AT NUMBER` | the item that starts at the byte AT names an actor that the platform hasn't |
 /// | 4 | `fault schedule too-long` | the items stand for more than 4,194,304 actors |
+/// | 5 | `fault trace line L text` | the line L of the trace, counted from 1, is no line of an event, and none that ends it |
+/// | 5 | `fault trace line L rule R` | the line L breaks the rule R; R is 32 where the numbers of the last line are not the trace's |
 /// | 6 | `fault read NAME` | a load failed, or the store hasn't the file |
-/// | 6 | `fault too-long NAME LIMIT` | the file has more bytes than its limit: 1,048,576 for the platform, 65,548 for the images, 4,194,304 for the schedule |
+/// | 6 | `fault too-long NAME LIMIT` | the file has more bytes than its limit: 1,048,576 for the platform, 65,548 for the images, 4,194,304 for the schedule, 536,870,912 for the trace |
 /// | 7 | none | a write or the save failed; where a write failed nothing is saved |
 /// | 8 | `fault memory` | want of memory |
 ///
 /// The words are judged first. Then each file is loaded and judged, in the order of the words: the
-/// platform, the images, the schedule. Of images their kind comes before their count. Whether the
-/// processors can be relocated is judged when the schedule is read. With another status than 0 and 7
-/// nothing is saved, and no name but AFTER ever changes.
+/// platform, the images, the schedule or the trace. Of images their kind comes before their count. Whether
+/// the processors can be relocated is judged when the schedule is read, and when the trace is loaded. With another status than 0 and 7
+/// nothing is saved, and no name but AFTER ever changes. `check` saves nothing, and
+/// `make` and `sum` load nothing either.
 pub fn play<F: Store, K: Sink>(alloc: Global, words: &Vec<String>, store: &mut F, out: &mut K) -> u8
     ensures status { IsTrue (is_exit_status result) }
 
@@ -119,7 +181,10 @@ pub fn play<F: Store, K: Sink>(alloc: Global, words: &Vec<String>, store: &mut F
     ensures done { result ≡ 0 → IsSomeAnd (form_of (texts words.now.items)) (λ asked. IsDone asked (F.files store.old) (F.files store.new) (K.written out.old) (K.written out.new)) }
 
     // Of a step that is the report of the replay that is due, and under AFTER the image that each processor last resumed
-    // from, in the platform's kind. The report's labels are a run of the rendezvous machine, from which the images follow.
+    // from, in the platform's kind. The labels are a run of the rendezvous machine, from which the images follow. A finish has
+    // done the same with a replay that is carried on until every actor is off: its first events are those of the schedule, and
+    // it is the replay of the actors of its own lines. Of a make it is the text of the generated platform, and of a sum the last
+    // line of its replay, whose labels are a run too. Of a check it is that the trace is one of a run.
     ensures played { result ≡ 0 → IsSomeAnd (form_of (texts words.now.items)) (λ asked. IsPlayed asked (F.files store.old) (F.files store.new) (K.written out.old) (K.written out.new)) }
 
     // Status 1 comes exactly where the words are of no form, unless there is no memory.
@@ -127,8 +192,8 @@ pub fn play<F: Store, K: Sink>(alloc: Global, words: &Vec<String>, store: &mut F
     ensures usage { form_of (texts words.now.items) ≡ None → (result ≡ 1) ⊎ (result ≡ 8) }
     ensures usage_told { result ≡ 1 → Tells (Rose (K.faults out.old) (K.faults out.new)) (K.written out.old) (K.written out.new) usage_line }
 
-    // Each of the statuses 2, 3, 4 and 6 has a refusal with its cause, and its line is told.
-    ensures faulted { (result ≡ 2) ⊎ (result ≡ 3) ⊎ (result ≡ 4) ⊎ (result ≡ 6) → IsSomeAnd (form_of (texts words.now.items)) (λ asked. IsFaulted asked (F.files store.old) (Rose (F.failed_loads store.old) (F.failed_loads store.new)) (Rose (K.faults out.old) (K.faults out.new)) (K.written out.old) (K.written out.new) result) }
+    // Each of the statuses 2 to 6 has a refusal with its cause, and its line is told.
+    ensures faulted { (result ≡ 2) ⊎ (result ≡ 3) ⊎ (result ≡ 4) ⊎ (result ≡ 5) ⊎ (result ≡ 6) → IsSomeAnd (form_of (texts words.now.items)) (λ asked. IsFaulted asked (F.files store.old) (Rose (F.failed_loads store.old) (F.failed_loads store.new)) (Rose (K.faults out.old) (K.faults out.new)) (K.written out.old) (K.written out.new) result) }
 
     // Where no load failed, the status is the one that is due for the held files.
     ensures due { (Rose (F.failed_loads store.old) (F.failed_loads store.new) → ⊥) → IfSome (form_of (texts words.now.items)) (λ asked. IfSome (F.files store.old) (λ held. IsDueStatus (due asked held) result)) }

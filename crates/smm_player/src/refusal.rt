@@ -7,6 +7,7 @@ use platform_file::{PlatformError, ScheduleError};
 use smm_base::NoMemory;
 use std::alloc::Global;
 use std::fmt;
+use trace_judge::TraceFault;
 
 /// Why an input file was refused.
 #[derive(Drop)]
@@ -21,6 +22,8 @@ pub enum Refusal {
     Images(ImagesFault),
     /// The file is no schedule of the platform.
     Schedule(ScheduleError),
+    /// The file is no trace of a run on the platform.
+    Trace(TraceFault),
 }
 
 impl Refusal {
@@ -33,6 +36,7 @@ impl Refusal {
             Refusal::Platform(_) => 2,
             Refusal::Images(_) => 3,
             Refusal::Schedule(_) => 4,
+            Refusal::Trace(_) => 5,
         }
     }
 }
@@ -51,6 +55,7 @@ impl fmt::Display for Refusal {
             Refusal::Platform(error) => write!(f, "fault platform {error}"),
             Refusal::Images(fault) => write!(f, "fault images {fault}"),
             Refusal::Schedule(error) => write!(f, "fault schedule {error}"),
+            Refusal::Trace(fault) => write!(f, "fault trace {fault}"),
         }
     }
 }

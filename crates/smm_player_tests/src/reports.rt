@@ -1,6 +1,6 @@
 use crate::counting::Pieces;
+use replay_report::write_report;
 use smm_base::{MemSink, WriteError};
-use smm_player::write_report;
 use std::test::Fail;
 use sync_words::{Access, Event, Label, Register, Status, WordId};
 

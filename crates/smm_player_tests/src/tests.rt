@@ -103,7 +103,17 @@ step P I P A|4 3 0 fault schedule token 0
 step Q I T A|3 2 0 fault images count-differs 2 1
 step P J S A|3 2 0 fault images count-differs 1 2
 step Q J U A|4 3 0 fault schedule actor 2 3
-step P I U A|4 3 0 fault schedule actor 0 2";
+step P I U A|4 3 0 fault schedule actor 0 2
+make 1|1 0 0 fault usage
+make 1 0|1 0 0 fault usage
+make 1 65|1 0 0 fault usage
+make 1 02|1 0 0 fault usage
+make 01 2|1 0 0 fault usage
+make +1 2|1 0 0 fault usage
+make 4294967296 2|1 0 0 fault usage
+sum -1 2|1 0 0 fault usage
+sum 1 x|1 0 0 fault usage
+sum 1 1|0 0 0 complete events 72 sessions 2 unserved 0";
 
 #[test]
 fn files_are_loaded_in_their_order_and_no_others(rt: HostRuntime) -> Result<(), Fail> {
@@ -115,6 +125,44 @@ fn files_are_loaded_in_their_order_and_no_others(rt: HostRuntime) -> Result<(), 
         let told = told(alloc, words)?;
         assert_eq!(rt; told.trim_end(), want);
     }
+    Ok(())
+}
+
+// The platform of two processors that is generated from 1.
+const GENERATED: &str = "version = 1
+processors = 2
+map = \"intel64\"
+policy = \"elected\"
+mode = \"traditional\"
+polls = [16, 16]
+visits = 8
+ops = 64
+
+[[wave]]
+status = [\"prompt\", \"blocked\"]
+manage = [\"root\"]
+
+[[wave]]
+status = [\"prompt\", \"prompt\"]
+manage = [\"root\"]
+
+[[handler]]
+name = \"h0\"
+type = \"root\"
+answer = \"SUCCESS\"
+ops = [{op = \"write\", cpu = 0, reg = \"RAX\", width = 8, value = 5627}, {op = \"write\", cpu = 1, reg = \"RAX\", width = 8, value = 23010}]
+";
+
+#[test]
+fn a_generated_platform_is_one_that_can_be_played(rt: HostRuntime) -> Result<(), Fail> {
+    let alloc = rt.alloc();
+    let told = told(alloc, "make 1 2")?;
+    assert_eq!(rt; told.strip_prefix("0 0 0 "), Some(GENERATED));
+    let mut store = store(alloc)?;
+    store.put("G", GENERATED.as_bytes())?;
+    let mut sink = MemSink::new(alloc, 4096, Vec::new(alloc))?;
+    let status = play(alloc, &words(alloc, "step G J T A")?, &mut store, &mut sink);
+    assert_eq!(rt; status, 0);
     Ok(())
 }
 

@@ -14,7 +14,11 @@ const NO_MEMORY: u8 = 8;
 const USAGE: u8 = 1;
 
 /// The forms of the commands, for the standard error.
-const FORMS: &str = "usage: smmplay step PLATFORM IMAGES SCHEDULE AFTER";
+const FORMS: &str = "usage: smmplay step PLATFORM IMAGES SCHEDULE AFTER
+       smmplay finish PLATFORM IMAGES SCHEDULE AFTER
+       smmplay check PLATFORM IMAGES TRACE
+       smmplay make NUMBER N
+       smmplay sum NUMBER N";
 
 /// The words behind the program's name. A word that isn't UTF-8 is an error.
 fn words<R: Env + AllocGlobal>(rt: &R) -> io::Result<Vec<String>> {

@@ -2,16 +2,16 @@ use Rattle.smm_base.specs.Calls.{leads_on, rose_later}
 use Rattle.smm_base.specs.Faults.{Rose}
 use Rattle.cpu_table.specs.Data.{data_of}
 use Rattle.smm_player.specs.Due.{platform_limit, platform_found, platform_due, plan_on}
-use Rattle.smm_player.specs.Plan.{plan_of}
+use Rattle.replay_report.specs.Plan.{plan_of}
 use Rattle.smm_player.proofs.LoadLemmas.{file_steady, then_found, then_stops, stop_first}
 use Rattle.smm_player.proofs.load.load_inputs.Goals as goal
 
 pub returns-in-Ok-clause-due : goal.returns-in-Ok-clause-due
-returns-in-Ok-clause-due g c = then_found (λ inputs. plan_of inputs) (platform_due c.args.names.now) (plan_on c.args.names.now) (g.F.Store.files c.args.store.now) (g.F.Store.files c.load_platform.new.store) (data_of c.in-Ok.setup) c.load_on.result c.in-Ok.ensures.files_stay c.in-Ok.ensures.due c.load_on.ensures.due
+returns-in-Ok-clause-due g c = then_found (λ inputs. plan_of inputs) (platform_due c.args.names.now.platform) (plan_on c.args.names.now) (g.F.Store.files c.args.store.now) (g.F.Store.files c.load_platform.new.store) (data_of c.in-Ok.setup) c.load_on.result c.in-Ok.ensures.files_stay c.in-Ok.ensures.due c.load_on.ensures.due
 
 pub returns-in-Ok-clause-cause : goal.returns-in-Ok-clause-cause
 returns-in-Ok-clause-cause g c =
-    then_stops (platform_due c.args.names.now) (plan_on c.args.names.now) (file_steady platform_limit c.args.names.now.platform platform_found) (g.F.Store.files c.args.store.now) (g.F.Store.files c.load_platform.new.store)
+    then_stops (platform_due c.args.names.now.platform) (plan_on c.args.names.now) (file_steady platform_limit c.args.names.now.platform platform_found) (g.F.Store.files c.args.store.now) (g.F.Store.files c.load_platform.new.store)
     (Rose (g.F.Store.failed_loads c.load_platform.new.store) (g.F.Store.failed_loads c.load_on.new.store))
     (Rose (g.F.Store.failed_loads c.args.store.now) (g.F.Store.failed_loads c.load_on.new.store))
     (data_of c.in-Ok.setup) c.load_on.result c.in-Ok.ensures.files_stay
@@ -21,4 +21,4 @@ pub returns-in-Ok-clause-moved : goal.returns-in-Ok-clause-moved
 returns-in-Ok-clause-moved g c = leads_on c.in-Ok.ensures.moved c.load_on.ensures.moved
 
 pub returns-in-Err-clause-cause : goal.returns-in-Err-clause-cause
-returns-in-Err-clause-cause g c = stop_first (platform_due c.args.names.now) (plan_on c.args.names.now) (g.F.Store.files c.args.store.now) (Rose (g.F.Store.failed_loads c.args.store.now) (g.F.Store.failed_loads c.load_platform.new.store)) c.in-Err.fault c.in-Err.ensures.cause
+returns-in-Err-clause-cause g c = stop_first (platform_due c.args.names.now.platform) (plan_on c.args.names.now) (g.F.Store.files c.args.store.now) (Rose (g.F.Store.failed_loads c.args.store.now) (g.F.Store.failed_loads c.load_platform.new.store)) c.in-Err.fault c.in-Err.ensures.cause

@@ -2,16 +2,16 @@ use Rattle.smm_base.specs.Calls.{leads_on, rose_later}
 use Rattle.smm_base.specs.Faults.{Rose}
 use Rattle.cpu_table.specs.Data.{data_of}
 use Rattle.smm_player.specs.Due.{images_limit, images_found, images_due, plan_with}
-use Rattle.smm_player.specs.Plan.{plan_of}
+use Rattle.replay_report.specs.Plan.{plan_of}
 use Rattle.smm_player.proofs.LoadLemmas.{file_steady, then_found, then_stops, stop_first}
 use Rattle.smm_player.proofs.load.load_on.Goals as goal
 
 pub returns-in-Ok-clause-due : goal.returns-in-Ok-clause-due
-returns-in-Ok-clause-due g c = then_found (λ inputs. plan_of inputs) (images_due c.args.names.now (data_of c.args.setup)) (plan_with c.args.names.now (data_of c.args.setup)) (g.F.Store.files c.args.store.now) (g.F.Store.files c.load_images.new.store) c.in-Ok.images.items c.load_with.result c.in-Ok.ensures.files_stay c.in-Ok.ensures.due c.load_with.ensures.due
+returns-in-Ok-clause-due g c = then_found (λ inputs. plan_of inputs) (images_due c.args.names.now.images (data_of c.args.setup)) (plan_with c.args.names.now (data_of c.args.setup)) (g.F.Store.files c.args.store.now) (g.F.Store.files c.load_images.new.store) c.in-Ok.images.items c.load_with.result c.in-Ok.ensures.files_stay c.in-Ok.ensures.due c.load_with.ensures.due
 
 pub returns-in-Ok-clause-cause : goal.returns-in-Ok-clause-cause
 returns-in-Ok-clause-cause g c =
-    then_stops (images_due c.args.names.now (data_of c.args.setup)) (plan_with c.args.names.now (data_of c.args.setup)) (file_steady images_limit c.args.names.now.images (images_found c.args.setup.kind c.args.setup.processors)) (g.F.Store.files c.args.store.now) (g.F.Store.files c.load_images.new.store)
+    then_stops (images_due c.args.names.now.images (data_of c.args.setup)) (plan_with c.args.names.now (data_of c.args.setup)) (file_steady images_limit c.args.names.now.images (images_found c.args.setup.kind c.args.setup.processors)) (g.F.Store.files c.args.store.now) (g.F.Store.files c.load_images.new.store)
     (Rose (g.F.Store.failed_loads c.load_images.new.store) (g.F.Store.failed_loads c.load_with.new.store))
     (Rose (g.F.Store.failed_loads c.args.store.now) (g.F.Store.failed_loads c.load_with.new.store))
     c.in-Ok.images.items c.load_with.result c.in-Ok.ensures.files_stay
@@ -21,4 +21,4 @@ pub returns-in-Ok-clause-moved : goal.returns-in-Ok-clause-moved
 returns-in-Ok-clause-moved g c = leads_on c.in-Ok.ensures.moved c.load_with.ensures.moved
 
 pub returns-in-Err-clause-cause : goal.returns-in-Err-clause-cause
-returns-in-Err-clause-cause g c = stop_first (images_due c.args.names.now (data_of c.args.setup)) (plan_with c.args.names.now (data_of c.args.setup)) (g.F.Store.files c.args.store.now) (Rose (g.F.Store.failed_loads c.args.store.now) (g.F.Store.failed_loads c.load_images.new.store)) c.in-Err.fault c.in-Err.ensures.cause
+returns-in-Err-clause-cause g c = stop_first (images_due c.args.names.now.images (data_of c.args.setup)) (plan_with c.args.names.now (data_of c.args.setup)) (g.F.Store.files c.args.store.now) (Rose (g.F.Store.failed_loads c.args.store.now) (g.F.Store.failed_loads c.load_images.new.store)) c.in-Err.fault c.in-Err.ensures.cause

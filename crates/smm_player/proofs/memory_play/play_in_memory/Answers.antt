@@ -1,6 +1,6 @@
 use Rattle.smm_base.specs.MemSink.{no_write_fails}
 use Rattle.smm_base.specs.MemStore.{file_of, no_load_fails, no_save_fails}
-use Rattle.smm_player.specs.Commands.{texts, form_of}
+use Rattle.smm_command.specs.Commands.{texts, form_of}
 use Rattle.smm_player.proofs.PlayLemmas.{all_is_done}
 use Rattle.smm_player.proofs.memory_play.play_in_memory.Goals as goal
 

@@ -5,7 +5,7 @@ use Rattle.smm_player.proofs.playing.obey.Goals as goal
 
 pub returns-clause-obeys : goal.returns-clause-obeys
 returns-clause-obeys g c =
-    command_obeys c.perform-done.result c.args.command.now (g.F.Store.files c.args.store.now) (g.F.Store.files c.perform-done.new.store)
+    command_obeys c.judge_laws.ensures.accepts c.perform-done.result c.args.command.now (g.F.Store.files c.args.store.now) (g.F.Store.files c.perform-done.new.store)
     (Rose (g.F.Store.failed_loads c.args.store.now) (g.F.Store.failed_loads c.perform-done.new.store))
     (Rose (g.K.Sink.faults c.args.out.now) (g.K.Sink.faults c.perform-done.new.out))
     (Rose (g.K.Sink.faults c.perform-done.new.out) (g.K.Sink.faults c.finish.new.out))

@@ -2,16 +2,16 @@ use Rattle.std.proofs.Common.{◌≡◌, ◌∙◌, Option, subst}
 use Rattle.smm_base.specs.Calls.{leads_on, rose_later, stays}
 use Rattle.smm_base.specs.Store.{FileMap, ChangesOnly}
 use Rattle.smm_base.specs.Faults.{Rose}
-use Rattle.smm_player.specs.Plan.{plan_of}
-use Rattle.smm_player.specs.Replays.{report_of}
+use Rattle.replay_report.specs.Plan.{plan_of}
+use Rattle.replay_report.specs.Replays.{report_of}
 use Rattle.smm_player.specs.Due.{plan_due}
-use Rattle.smm_player.specs.declared.command.Command.TheVariants as command
-use Rattle.smm_player.proofs.PlayLemmas.{inputs_wrote, inputs_stop, inputs_unsaved, inputs_others, replay_stops, replay_wrote, replay_done, unsaved_from}
+use Rattle.smm_command.specs.declared.command.Command.TheVariants as command
+use Rattle.smm_player.proofs.PlayLemmas.{inputs_wrote, step_stops, inputs_unsaved, inputs_others, replay_stops, step_wrote, step_performed, unsaved_from}
 use Rattle.smm_player.proofs.playing.perform_step.Goals as goal
 
 pub returns-in-Ok-clause-done : goal.returns-in-Ok-clause-done
 returns-in-Ok-clause-done g c =
-    replay_done c.replay_inputs.result c.args.names.now (g.F.Store.files c.args.store.now) (g.F.Store.files c.replay_inputs.new.store) (g.K.Sink.written c.args.out.now) (g.K.Sink.written c.replay_inputs.new.out)
+    step_performed c.replay_inputs.result c.args.names.now (g.F.Store.files c.args.store.now) (g.F.Store.files c.replay_inputs.new.store) (g.K.Sink.written c.args.out.now) (g.K.Sink.written c.replay_inputs.new.out)
     (plan_of c.in-Ok.inputs) c.in-Ok.ensures.playable c.in-Ok.ensures.due c.replay_inputs.ensures.images c.replay_inputs.ensures.written c.replay_inputs.ensures.saved
 
 pub returns-in-Ok-clause-cause : goal.returns-in-Ok-clause-cause
@@ -26,7 +26,7 @@ returns-in-Ok-clause-cause g c =
 
 pub returns-in-Ok-clause-wrote : goal.returns-in-Ok-clause-wrote
 returns-in-Ok-clause-wrote g c =
-    replay_wrote c.replay_inputs.result c.args.names.now (g.F.Store.files c.args.store.now)
+    step_wrote c.replay_inputs.result c.args.names.now (g.F.Store.files c.args.store.now)
     (Rose (g.K.Sink.faults c.args.out.now) (g.K.Sink.faults c.replay_inputs.new.out))
     (Rose (g.F.Store.failed_saves c.load_inputs.new.store) (g.F.Store.failed_saves c.replay_inputs.new.store))
     (g.K.Sink.written c.args.out.now) (g.K.Sink.written c.replay_inputs.new.out) (plan_of c.in-Ok.inputs) c.in-Ok.ensures.due c.replay_inputs.ensures.ends
@@ -43,11 +43,11 @@ pub returns-in-Ok-clause-store_moved : goal.returns-in-Ok-clause-store_moved
 returns-in-Ok-clause-store_moved g c = leads_on c.in-Ok.ensures.moved c.replay_inputs.ensures.store_moved
 
 pub returns-in-Err-clause-cause : goal.returns-in-Err-clause-cause
-returns-in-Err-clause-cause g c = inputs_stop c.args.names.now (g.F.Store.files c.args.store.now) (Rose (g.F.Store.failed_loads c.args.store.now) (g.F.Store.failed_loads c.load_inputs.new.store))
+returns-in-Err-clause-cause g c = step_stops c.args.names.now (g.F.Store.files c.args.store.now) (Rose (g.F.Store.failed_loads c.args.store.now) (g.F.Store.failed_loads c.load_inputs.new.store))
     (Rose (g.K.Sink.faults c.args.out.now) (g.K.Sink.faults c.args.out.now)) (Rose (g.F.Store.failed_saves c.args.store.now) (g.F.Store.failed_saves c.load_inputs.new.store)) c.in-Err.fault c.in-Err.ensures.cause
 
 pub returns-in-Err-clause-wrote : goal.returns-in-Err-clause-wrote
-returns-in-Err-clause-wrote g c = inputs_wrote c.args.names.now (Rose (g.F.Store.failed_loads c.args.store.now) (g.F.Store.failed_loads c.load_inputs.new.store)) (g.F.Store.files c.args.store.now) (g.K.Sink.written c.args.out.now) c.in-Err.fault c.in-Err.ensures.cause
+returns-in-Err-clause-wrote g c = inputs_wrote (command.Step c.args.names.now) c.args.names.now (Rose (g.F.Store.failed_loads c.args.store.now) (g.F.Store.failed_loads c.load_inputs.new.store)) (g.F.Store.files c.args.store.now) (g.K.Sink.written c.args.out.now) c.in-Err.fault c.in-Err.ensures.cause
 
 pub returns-in-Err-clause-unsaved : goal.returns-in-Err-clause-unsaved
 returns-in-Err-clause-unsaved g c = inputs_unsaved (plan_due c.args.names.now) (Rose (g.F.Store.failed_loads c.args.store.now) (g.F.Store.failed_loads c.load_inputs.new.store)) (g.F.Store.files c.args.store.now) (g.F.Store.files c.load_inputs.new.store ≡ g.F.Store.files c.args.store.now) c.in-Err.fault c.in-Err.ensures.cause c.in-Err.ensures.files_stay

@@ -2,13 +2,13 @@
 use Rattle.std.proofs.Common.{sym}
 use Rattle.smm_base.specs.Calls.{stays}
 use Rattle.smm_base.specs.Faults.{Rose}
-use Rattle.smm_player.specs.Commands.{texts, form_of}
+use Rattle.smm_command.specs.Commands.{texts, form_of}
 use Rattle.smm_player.proofs.PlayLemmas.{some_plays, none_plays, memory_plays}
 use Rattle.smm_player.proofs.playing.play.Goals as goal
 
 pub returns-in-Ok-Some : goal.returns-in-Ok-Some
 returns-in-Ok-Some g c =
-    let plays = some_plays (form_of (texts c.args.words.now.items)) c.in-Ok-Some.command (g.F.Store.files c.args.store.now) (g.F.Store.files c.obey.new.store) (Rose (g.F.Store.failed_loads c.args.store.now) (g.F.Store.failed_loads c.obey.new.store)) (Rose (g.K.Sink.faults c.args.out.now) (g.K.Sink.faults c.obey.new.out)) (Rose (g.F.Store.failed_saves c.args.store.now) (g.F.Store.failed_saves c.obey.new.store)) (g.K.Sink.written c.args.out.now) (g.K.Sink.written c.obey.new.out) c.obey.result (sym (rw c.in-Ok-Some.field-0-is at c.in-Ok-Some.ensures)) c.obey.ensures.obeys in
+    let plays = some_plays (form_of (texts c.args.words.now.items)) c.in-Ok-Some.command (g.F.Store.files c.args.store.now) (g.F.Store.files c.obey.new.store) (Rose (g.F.Store.failed_loads c.args.store.now) (g.F.Store.failed_loads c.obey.new.store)) (Rose (g.K.Sink.faults c.args.out.now) (g.K.Sink.faults c.obey.new.out)) (Rose (g.F.Store.failed_saves c.args.store.now) (g.F.Store.failed_saves c.obey.new.store)) (g.K.Sink.written c.args.out.now) (g.K.Sink.written c.obey.new.out) c.obey.result (sym (rw c.in-Ok-Some.field-0-is at c.in-Ok-Some.ensures.command)) c.obey.ensures.obeys in
     record {
       status = plays.status;
       done = plays.done;
@@ -29,7 +29,7 @@ returns-in-Ok-Some g c =
 
 pub returns-in-Ok-None : goal.returns-in-Ok-None
 returns-in-Ok-None g c =
-    let plays = none_plays (form_of (texts c.args.words.now.items)) (g.F.Store.files c.args.store.now) (Rose (g.F.Store.failed_loads c.args.store.now) (g.F.Store.failed_loads c.args.store.now)) (Rose (g.K.Sink.faults c.args.out.now) (g.K.Sink.faults c.tell.new.out)) (Rose (g.F.Store.failed_saves c.args.store.now) (g.F.Store.failed_saves c.args.store.now)) (g.K.Sink.written c.args.out.now) (g.K.Sink.written c.tell.new.out) c.tell.result (sym (rw c.in-Ok-None.field-0-is at c.in-Ok-None.ensures)) c.tell.ensures.tells in
+    let plays = none_plays (form_of (texts c.args.words.now.items)) (g.F.Store.files c.args.store.now) (Rose (g.F.Store.failed_loads c.args.store.now) (g.F.Store.failed_loads c.args.store.now)) (Rose (g.K.Sink.faults c.args.out.now) (g.K.Sink.faults c.tell.new.out)) (Rose (g.F.Store.failed_saves c.args.store.now) (g.F.Store.failed_saves c.args.store.now)) (g.K.Sink.written c.args.out.now) (g.K.Sink.written c.tell.new.out) c.tell.result (sym (rw c.in-Ok-None.field-0-is at c.in-Ok-None.ensures.command)) c.tell.ensures.tells in
     record {
       status = plays.status;
       done = plays.done;

@@ -1,4 +1,4 @@
-use Rattle.smm_player.proofs.ReplayLemmas.{save_ends}
+use Rattle.smm_player.proofs.EndLemmas.{save_ends}
 use Rattle.smm_base.specs.Calls.{stays}
 use Rattle.smm_player.proofs.step.conclude.Goals as goal
 

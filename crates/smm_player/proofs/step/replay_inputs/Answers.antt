@@ -1,5 +1,6 @@
-use Rattle.smm_player.specs.Plan.{plan_of}
-use Rattle.smm_player.proofs.ReplayLemmas.{report_is, on_ok_anyway}
+use Rattle.replay_report.specs.Plan.{plan_of}
+use Rattle.replay_report.proofs.ReplayLemmas.{report_is}
+use Rattle.smm_player.proofs.EndLemmas.{on_ok_anyway}
 use Rattle.smm_base.specs.Calls.{stays}
 use Rattle.smm_player.proofs.step.replay_inputs.Goals as goal
 

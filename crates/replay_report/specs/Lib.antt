@@ -1,0 +1,4 @@
+pub mod Plan
+pub mod ReplayInside
+pub mod Replays
+pub mod Report

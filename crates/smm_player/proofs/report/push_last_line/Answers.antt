@@ -1,5 +1,0 @@
-use Rattle.smm_player.proofs.ReportLemmas.{buffered_gained, on_err_anyway}
-use Rattle.smm_player.proofs.report.push_last_line.Goals as goal
-
-pub returns-clause-prefix : goal.returns-clause-prefix
-returns-clause-prefix g c = on_err_anyway _ _ (buffered_gained _ _ _ _ c.in_ok-make_room.ensures.buffered)
