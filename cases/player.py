@@ -26,10 +26,11 @@ class Outcome:
 @dataclass
 class Expected:
     """What is known of the outcome; None where nothing is said. `lines` has texts by their number from 1, and the
-    last line as number -1."""
+    last line as number -1; `last` is how the last line begins."""
     status: int | None = None
     text: bytes | None = None
     lines: dict = field(default_factory=dict)
+    last: str | None = None
     judges_after: bool = False
     after: bytes | None = None
 
@@ -38,7 +39,7 @@ class Expected:
 class Case:
     """Files by their names, the words of the command, and what is expected. `like` has the files that must give the
     same outcome. With `is_full` the standard output takes nothing. `broken` has a change of the report and the rule
-    that it breaks: such a case is the abstract machine's alone."""
+    that it breaks: such a case is the abstract machine's alone. `also` finds what else is wrong with an outcome."""
     name: str
     files: dict
     words: list = field(default_factory=lambda: ["step", "P", "I", "S", "A"])
@@ -46,6 +47,7 @@ class Case:
     like: dict | None = None
     is_full: bool = False
     broken: tuple | None = None
+    also: object = None
 
 
 def differences(expected, outcome):
@@ -60,6 +62,8 @@ def differences(expected, outcome):
         line = lines[number - 1 if number > 0 else number] if abs(number) <= len(lines) else "no line"
         if line != text:
             found.append(f"line {number} is '{line}', not '{text}'")
+    if expected.last is not None and not (lines and lines[-1].startswith(expected.last)):
+        found.append(f"the last line is '{lines[-1] if lines else ''}'")
     if expected.judges_after and outcome.after != expected.after:
         found.append(difference_of_bytes(expected.after, outcome.after))
     return found
@@ -170,7 +174,8 @@ def judge(case, programs):
         return [("reference", differing_rule(case))]
     played = by_reference(case, case.files)
     expected = case.expected if case.like is None else exactly(by_reference(case, case.like))
-    judged = [("reference", differences(expected, played) + broken_rule(case.files, case.words))]
+    wrong = differences(expected, played) + broken_rule(case.files, case.words)
+    judged = [("reference", wrong + (case.also(case, played) if case.also else []))]
     for name, path in programs:
         outcome = by_program(path, case, case.files)
         judged.append((name, differences(exactly(played), outcome) or differences(expected, outcome)))
@@ -185,4 +190,4 @@ def differing_rule(case):
 
 def exactly(outcome):
     """What is expected where an outcome is to be the same."""
-    return Expected(outcome.status, outcome.text, {}, True, outcome.after)
+    return Expected(outcome.status, outcome.text, judges_after=True, after=outcome.after)

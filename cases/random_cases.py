@@ -1,7 +1,7 @@
 """Random cases. A case follows from its seed and its number alone.
 
-Most are right platforms of 1 to 17 processors, now and then of 64, with images and schedules that get somewhere; the rest
-have a fault in one of the files or in the words.
+Most are right platforms of 1 to 17 processors, now and then of 64, with images and schedules that get somewhere, and one of four
+is finished; the rest have a fault in one of the files or in the words.
 """
 import random
 
@@ -30,7 +30,7 @@ def random_case(seed, number):
     files["P"] = toml_of(tree, draw).encode()
     files["I"] = image_file(draw, tree["map"], n, "smram" in tree and draw.random() < 0.8)
     files["S"] = schedule_text(draw, n).encode()
-    words = ["step", "P", "I", "S", "A"]
+    words = [draw.choice(["step", "step", "step", "finish"]), "P", "I", "S", "A"]
     if kind == "platform":
         files["P"] = faulty_platform(draw, tree)
     elif kind == "images":
