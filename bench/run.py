@@ -4,7 +4,7 @@
     bench/run.py [--quick] [PART ..]
 
 Run smmplay once before, so that the program is there. It needs Python 3.11 on Linux. The parts are growth, many, large,
-long, busy, shares, profile and judging, and simulator; without a word all of them are played.
+long, busy, finishing, shares, profile and judging, and simulator; without a word all of them are played.
 
 A time is the least wall time of some turns of the whole command, with its start, its files and its report. A peak of
 memory is the system's own count (the greatest resident set, by /usr/bin/time; where that isn't there, the greatest that
@@ -17,6 +17,7 @@ files and no more; one whose first write fails (/dev/full) has also stepped; one
 file has also written.
 Where `perf` runs, the functions in which most of the time goes are told too.
 """
+import itertools
 import pathlib
 import resource
 import shutil
@@ -24,6 +25,7 @@ import subprocess
 import sys
 import tempfile
 import time
+import tomllib
 from dataclasses import dataclass
 
 from make_inputs import ACTORS, LONG, LOOKS, MANY
@@ -41,6 +43,11 @@ LARGE = {
     "one processor, 4096 units a session": ("serving", "one.smi"),
 }
 LEAST_SHARE = 2
+# what `finish` plays: of the first the actors of the events fit in a schedule file, which has at most so many bytes
+FINISHED = {f"64 processors that wait in vain, {LONG[1]} waves": (f"long_{LONG[1]}", "full.smi"), **LARGE}
+# the greatest count of an item of a schedule
+MOST_TIMES = 65535
+MOST_TEXT = 4194304
 
 
 @dataclass
@@ -175,6 +182,38 @@ def busy(player, program, folder, turns):
         row(name, player, run, per_event(run, few))
 
 
+def own_schedule(report, stem, folder):
+    """Writes a schedule of just the actors of a report's events; the chipset comes after the platform's processors. Where
+    there are too many for a schedule file, that of the platform, all actors in rounds, stands for it."""
+    processors = tomllib.loads((folder / f"{stem}.toml").read_text())["processors"]
+    lines = [line.split(maxsplit=1)[0] for line in report.read_text().splitlines()[:-1]]
+    numbers = (processors if name == "chip" else int(name[1:]) for name in lines)
+    runs = [(actor, len(list(same))) for actor, same in itertools.groupby(numbers)]
+    parts = [(actor, min(MOST_TIMES, count - done)) for actor, count in runs for done in range(0, count, MOST_TIMES)]
+    text = " ".join(str(actor) if count == 1 else f"{actor}*{count}" for actor, count in parts)
+    if len(text) > MOST_TEXT:
+        return f"{stem}.txt", "rounds of all"
+    (folder / "own.txt").write_text(text)
+    return "own.txt", "its own actors"
+
+
+def finishing(player, program, folder, turns):
+    """`finish` from the start, and beside it `step` on just the actors of the same events, where the program has the
+    command."""
+    (folder / "empty.txt").write_text("")
+    for name, (stem, images) in FINISHED.items():
+        finish = [*program, "finish", f"{stem}.toml", images, "empty.txt", "after.smi"]
+        if timed(finish, folder)[1] == 1:
+            return
+        report = folder / "report.txt"
+        events, peak = events_of(report), peak_of(finish, folder)
+        schedule, actors = own_schedule(report, stem, folder)
+        step = step_of(program, f"{stem}.toml", images, schedule)
+        rounds = [(timed(finish, folder), timed(step, folder)) for _ in range(few_turns(turns))]
+        least, own = (min(seconds for seconds, _ in runs) for runs in zip(*rounds))
+        row(f"{name}, `finish`", player, Run(least, peak, rounds[0][0][1], events), f"{least / own:.2f} times `step` on {actors}")
+
+
 def few_turns(turns):
     """Of a large run fewer turns are enough."""
     return max(1, turns // 8)
@@ -231,8 +270,8 @@ def judging(player, program, folder, turns):
         row(name, player, Run(least, peak_of(command, folder), status, made), f"{least / max(1, made) * 1e9:.0f} ns an event")
 
 
-PARTS = {"growth": growth, "many": many_processors, "large": large_files, "long": long_rounds, "busy": busy, "judging": judging,
-         "shares": shares, "profile": profile}
+PARTS = {"growth": growth, "many": many_processors, "large": large_files, "long": long_rounds, "busy": busy, "finishing": finishing,
+         "judging": judging, "shares": shares, "profile": profile}
 
 
 def simulated(folder, wanted, turns):
