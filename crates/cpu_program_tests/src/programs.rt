@@ -407,9 +407,10 @@ fn write_many(text: &mut String) -> fmt::Result {
         text.write_str("\"prompt\",\n")?;
     }
     text.write_str("]\n[[handler]]\nname = \"all\"\ntype = \"root\"\nanswer = \"SUCCESS\"\nops = [\n")?;
-    for half in 1..32 {
-        let cpu = half * 2;
-        writeln!(text, "{{op = \"read\", cpu = {cpu}, reg = \"RAX\", width = 8, into = \"v0\"}},")?;
+    for cpu in 1..64u16 {
+        if cpu % 2 == 0 {
+            writeln!(text, "{{op = \"read\", cpu = {cpu}, reg = \"RAX\", width = 8, into = \"v0\"}},")?;
+        }
     }
     text.write_str("]\n")
 }
@@ -498,17 +499,19 @@ fn follow(
 
 // Each processor with an even number but the first in the place of a dollar sign.
 fn write_each(text: &mut String, line: &str) -> fmt::Result {
-    for half in 1..32 {
-        let cpu = half * 2;
-        write_line(text, line, cpu)?;
+    for cpu in 1..64 {
+        if cpu % 2 == 0 {
+            write_line(text, line, cpu)?;
+        }
     }
     Ok(())
 }
 
 fn write_odd(text: &mut String, line: &str) -> fmt::Result {
-    for half in 0..32 {
-        let cpu = half * 2 + 1;
-        write_line(text, line, cpu)?;
+    for cpu in 0..64 {
+        if cpu % 2 == 1 {
+            write_line(text, line, cpu)?;
+        }
     }
     Ok(())
 }
