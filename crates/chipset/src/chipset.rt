@@ -81,10 +81,18 @@ impl Chipset {
     {
         let wave = self.wave;
         match self.row {
-            Some(Row::AnnounceBlocked) => (Label::Excepted(self.blocked()), Some(Row::AnnounceWave), wave),
+            Some(Row::AnnounceBlocked) => (
+                Label::Excepted(self.blocked()),
+                Some(Row::AnnounceWave),
+                wave,
+            ),
             Some(Row::AnnounceWave) => (Label::Wave(wave), Some(self.raise_from(0)), wave),
             Some(Row::RaiseWave(cpu)) => (Label::Silent, Some(self.raise_from(cpu + 1)), wave),
-            Some(Row::WatchSource(looks)) => (Label::Silent, Some(self.watched(looks, found)), wave),
+            Some(Row::WatchSource(looks)) => (
+                Label::Silent,
+                Some(self.watched(looks, found)),
+                wave,
+            ),
             Some(Row::AwaitServed) => {
                 let (row, wave) = self.after_wave();
                 (Label::Silent, row, wave)

@@ -406,10 +406,15 @@ fn write_many(text: &mut String) -> fmt::Result {
     for _ in 0..64 {
         text.write_str("\"prompt\",\n")?;
     }
-    text.write_str("]\n[[handler]]\nname = \"all\"\ntype = \"root\"\nanswer = \"SUCCESS\"\nops = [\n")?;
+    text.write_str(
+        "]\n[[handler]]\nname = \"all\"\ntype = \"root\"\nanswer = \"SUCCESS\"\nops = [\n",
+    )?;
     for cpu in 1..64u16 {
         if cpu % 2 == 0 {
-            writeln!(text, "{{op = \"read\", cpu = {cpu}, reg = \"RAX\", width = 8, into = \"v0\"}},")?;
+            writeln!(
+                text,
+                "{{op = \"read\", cpu = {cpu}, reg = \"RAX\", width = 8, into = \"v0\"}},"
+            )?;
         }
     }
     text.write_str("]\n")
@@ -490,7 +495,12 @@ fn follow(
     } else if line == "off" && is_off(actor) {
         writeln!(told, "off")?;
     } else {
-        let found = line.split(' ').nth(3).unwrap_or("").parse().unwrap_or(LOCKED);
+        let found = line
+            .split(' ')
+            .nth(3)
+            .unwrap_or("")
+            .parse()
+            .unwrap_or(LOCKED);
         let (event, hand) = next_event(actor, found).ok_or("no event")?;
         writeln!(told, "{event}{hand}")?;
     }
@@ -528,7 +538,10 @@ fn write_line(text: &mut String, line: &str, cpu: u16) -> fmt::Result {
 
 // The run of the BSP of 64 processors, of which those with even numbers report.
 fn write_many_run(text: &mut String) -> fmt::Result {
-    write_each(text, "p0 present$ claim:1:2 1 - take $\np0 inside look 1 read:$:RAX:8:0:SUCCESS")?;
+    write_each(
+        text,
+        "p0 present$ claim:1:2 1 - take $\np0 inside look 1 read:$:RAX:8:0:SUCCESS",
+    )?;
     text.write_str("p0 inside look 1 return:0:SUCCESS\np0 inside look 1 answer:SUCCESS\n")?;
     text.write_str("p0 insync put:1 0 -\np0 counter lock 32 close:32\n")?;
     write_each(text, "p0 run0 down 1 -")?;

@@ -95,7 +95,6 @@ lma_some false = omega arith
 lma_few : (m : ImageContents) → lma_byte m < 256
 lma_few m = lma_some (number_in m Efer / 2 ^ 10 % 2 == 1)
 
-
 -- the bytes of what may be told
 bytes_in : Option (ℕ × List ℕ) → List ℕ
 bytes_in o = (unwrap_or {T = ℕ × List ℕ} o (0, [])).1
