@@ -1,5 +1,5 @@
 -- What a plan comes to that is carried on, by the laws on bounds and on finishing.
-use Rattle.std.proofs.Common.{◌≡◌, ◌≤◌, ◌+◌, ℕ, zero, suc, true, List, [], ◌∷◌, ◌++◌, length, take, All, None, refl, ap, sym, subst, ◌∙◌, arith}
+use Rattle.std.proofs.Common.{◌≡◌, ◌≤◌, ◌+◌, ℕ, zero, suc, true, List, [], ◌∷◌, ◌++◌, length, take, All, ap, sym, subst, ◌∙◌, arith}
 use Rattle.std.specs.List.{enumerate_from}
 use Rattle.std.proofs.lemmas.List.{length-map}
 use Rattle.std.proofs.lemmas.List.Elements.{All-nil, All-append}
@@ -14,7 +14,7 @@ use Rattle.rendezvous_core.specs.Worlds.{World, replay_events, replay_world, is_
 use Rattle.rendezvous_finish.specs.Finishes.{round_of, rounds, actors_of, AreAtMost, IsPrefix}
 use Rattle.replay_report.specs.declared.inputs.Inputs.{Inputs}
 use Rattle.replay_report.specs.Plan.{Plan, plan_of, IsPlayable}
-use Rattle.replay_report.specs.Replays.{Replayed, images_by, registers_of, world_of, replayed}
+use Rattle.replay_report.specs.Replays.{images_by, registers_of, world_of, replayed}
 use Rattle.replay_report.proofs.ReplayLemmas.{same_left, known_range}
 use Rattle.finished_replay.specs.Finished.{room_of, finished, by_events, ReachesEnd}
 

@@ -1,5 +1,5 @@
 -- A schedule that is carried on by rounds of all actors, and what becomes of it.
-use Rattle.std.specs.Prelude.{ℕ, ◌≡◌, List, ◌++◌, length, take, true}
+use Rattle.std.specs.Prelude.{ℕ, ◌≡◌, ◌++◌, length, take, true}
 use Rattle.cpu_table.specs.Data.{SetupData}
 use Rattle.cpu_table.specs.Ranges.{events_at_most}
 use Rattle.rendezvous_finish.specs.Finishes.{rounds, actors_of}

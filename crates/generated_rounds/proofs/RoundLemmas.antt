@@ -5,7 +5,7 @@ use Rattle.std.specs.Bool.{OnTrue}
 use Rattle.std.proofs.lemmas.Bool.{false≢true}
 use Rattle.std.specs.List.{concat, range_with_len}
 use Rattle.std.proofs.lemmas.List.{map-id, length-replicate}
-use Rattle.std.proofs.lemmas.List.Elements.{All-nil, All-cons, All-append, All-replicate}
+use Rattle.std.proofs.lemmas.List.Elements.{All-nil, All-append, All-replicate}
 use Rattle.std.proofs.lemmas.List.FromFn.{map-range_with_len_more}
 use Rattle.smm_base.specs.declared.kinds.MapKind.TheVariants.{Intel64}
 use Rattle.save_state_map.specs.declared.field.Field.TheVariants.{Revision, Smbase}

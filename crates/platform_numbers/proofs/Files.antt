@@ -1,15 +1,15 @@
 -- The numbers of each platform that a file stands for fit their types.
-use Rattle.std.proofs.Common.{◌≡◌, ◌⊎◌, ℕ, zero, suc, ◌+◌, ◌-◌, ◌*◌, ◌<◌, ◌≤◌, ◌^◌, Bool, true, false, List, [], ◌∷◌, length, get_or, take, drop, Option, Some, None, refl, sym, ap, subst, ⊎_elim, ◌∙◌, arith, inl, inr}
-use Rattle.std.specs.Prelude.{◌==◌, ◌&&◌, ◌||◌, nat_le, if◌then◌else◌, IsTrue, MatchOption, slice_index, codes, pos}
+use Rattle.std.proofs.Common.{◌≡◌, ◌⊎◌, ℕ, zero, suc, ◌+◌, ◌-◌, ◌*◌, ◌<◌, ◌≤◌, ◌^◌, Bool, true, false, List, [], ◌∷◌, length, take, drop, Option, Some, None, refl, sym, subst, ⊎_elim, ◌∙◌, arith, inl, inr}
+use Rattle.std.specs.Prelude.{◌==◌, ◌&&◌, ◌||◌, nat_le, if◌then◌else◌, MatchOption, slice_index, codes, pos}
 use Rattle.std.specs.Char.{digit_value, is_digit}
 use Rattle.std.specs.Int.{w128, from_be_bytes}
 use Rattle.std.specs.List.{list_all}
-use Rattle.std.specs.Str.Parse.{AllDigits, digits_value}
+use Rattle.std.specs.Str.Parse.{AllDigits}
 use Rattle.std.proofs.Math.Nat.{pow-le-pow_right}
 use Rattle.std.proofs.lemmas.Bool.{and_parts, or_cases, ltb-true, leb-true, leb-false, cases_lt}
 use Rattle.std.proofs.lemmas.Int.Digits.{digits_value-lt}
 use Rattle.std.proofs.lemmas.List.{get_or_past}
-use Rattle.toml.specs.Data.{Data, integer, string, array, table, Items, no_items, item, Members, get_member}
+use Rattle.toml.specs.Data.{Data, integer, string, Items, no_items, item, Members, get_member}
 use Rattle.uuid.specs.Text.{by_index, is_hex_digit, value_of, byte_of_digits, parsed_simple, parsed_hyphenated, parsed_braced, parsed_urn, digits_of, parsed}
 use Rattle.uuid.proofs.TextLemmas.{by_index_length, by_index_at}
 use Rattle.smm_base.specs.declared.kinds.HandlerType.{HandlerType}
@@ -22,7 +22,7 @@ use Rattle.cpu_table.specs.declared.handlers.OpDef.{OpDef}
 use Rattle.cpu_table.specs.declared.handlers.OpDef.TheVariants as op
 use Rattle.cpu_table.specs.declared.waves.Wave.{Wave}
 use Rattle.trace_text.specs.Spelling as spelling
-use Rattle.platform_laws.specs.Words.{IsKind, IsGuid, IsHexadecimal}
+use Rattle.platform_laws.specs.Words.{IsKind, IsHexadecimal}
 use Rattle.platform_laws.specs.Values.{EachSays, IsListOf, IsTableOf, IsOperand}
 use Rattle.platform_laws.specs.Says.{SaysParts, SaysOperation, SaysHandlerDef, SaysWave, IsNameAt, Says}
 use Rattle.platform_laws.specs.Fits.{Fits, names_word, names_words}

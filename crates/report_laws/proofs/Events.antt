@@ -1,9 +1,9 @@
 -- Each event of every replay has a spelling.
-use Rattle.std.proofs.Common.{◌≡◌, ℕ, List, [], ◌∷◌, length, All, refl}
+use Rattle.std.proofs.Common.{◌≡◌, ℕ, List, [], ◌∷◌, length, All}
 use Rattle.std.proofs.lemmas.List.Elements.{All-nil, All-cons, All-head, All-tail}
 use Rattle.save_state_map.specs.Images.{ImageContents}
 use Rattle.cpu_regs.specs.Registers.{Registers}
-use Rattle.cpu_table.specs.Data.{SetupData, data_of}
+use Rattle.cpu_table.specs.Data.{data_of}
 use Rattle.cpu_table.specs.declared.setup.Setup.{Setup}
 use Rattle.sync_words.specs.declared.event.Event.{Event}
 use Rattle.sync_words.specs.declared.label.Label.{Label}

@@ -1,11 +1,8 @@
 -- In every run of the rendezvous machine each label's numbers fit its fields.
-use Rattle.std.proofs.Common.{◌≡◌, ◌≢◌, ◌<◌, ◌≤◌, ◌^◌, ◌+◌, ◌⊎◌, ℕ, zero, suc, Bool, true, false, List, [], ◌∷◌, ◌++◌, length, replicate, slice_index_or, slice_set, IfSome, IsSomeAnd, IsSome, is_some, Option, Some, None, refl, sym, ap, subst, inl, inr, ⊎_elim, ◌∙◌, true≢false, arith}
-use Rattle.std.specs.List.{count_by}
+use Rattle.std.proofs.Common.{◌≡◌, ◌≢◌, ◌<◌, ◌≤◌, ◌^◌, ◌+◌, ◌⊎◌, ℕ, zero, suc, Bool, true, false, List, [], ◌∷◌, ◌++◌, length, replicate, slice_index_or, IfSome, IsSomeAnd, Option, Some, None, refl, sym, subst, inl, inr, ⊎_elim, ◌∙◌, true≢false, arith}
 use Rattle.std.specs.Option.{option_map}
 use Rattle.std.proofs.lemmas.List.{length-replicate}
 use Rattle.std.proofs.lemmas.List.Sums.{count_by-le-length}
-use Rattle.smm_base.specs.declared.kinds.HandlerType.{HandlerType}
-use Rattle.smm_base.specs.declared.registers.Register.{Register}
 use Rattle.smm_base.specs.declared.status.Status.{Status}
 use Rattle.smm_base.specs.Register.{register_number}
 use Rattle.save_state_access.specs.Reading.{ReadAnswer}
@@ -25,23 +22,23 @@ use Rattle.serving_place.specs.declared.seat.Seat.{Seat}
 use Rattle.serving_place.specs.declared.seat.Seat.TheVariants.{Free, Open, Done}
 use Rattle.serving_place.specs.Serving.{Serving, HasOpen}
 use Rattle.serving_place.specs.Forms.{Program, Event, Own, Ran}
-use Rattle.serving_place.specs.Beginning.{program_of, walks_of, manage_in, at_begin}
+use Rattle.serving_place.specs.Beginning.{program_of, walks_of, at_begin}
 use Rattle.serving_place.specs.Places.{Place, Accepts, next, at_first, ended}
-use Rattle.rendezvous_machine.specs.Machines.{Machine, Session, Member, member, nobody, is_counted, count_of, IsLed}
-use Rattle.rendezvous_machine.specs.Listed.{first_serving, place_by, place_in, place_of, is_over, grown, grown_unless, CanSay, IsServed}
-use Rattle.rendezvous_machine.specs.Services.{Target, NoProcessor, JobOpen, JobFinished, Image, ReadShows, target, setting, Reads}
-use Rattle.rendezvous_machine.specs.Rules.{Rule, Answers, HasFinished, IsLeast}
-use Rattle.rendezvous_machine.specs.Effects.{effect, opened, serves, gathers, made_ready, has_expired, made_closed, made_begun, made_done, says, hears, with_member, worked}
+use Rattle.rendezvous_machine.specs.Machines.{Machine, Session, Member, member, nobody, is_counted, count_of}
+use Rattle.rendezvous_machine.specs.Listed.{first_serving, place_by, place_in, place_of, is_over, grown, grown_unless, CanSay}
+use Rattle.rendezvous_machine.specs.Services.{Target, NoProcessor, JobOpen, JobFinished, Image, ReadShows, target, setting}
+use Rattle.rendezvous_machine.specs.Rules.{Rule}
+use Rattle.rendezvous_machine.specs.Effects.{effect, opened, serves, gathers, made_ready, has_expired, made_closed, made_begun, made_done, says, hears}
 use Rattle.rendezvous_machine.specs.Runs.{Said, IsRun}
 use Rattle.rendezvous_machine.proofs.Changes.{session_after, session_is, step_of, with_rule, without_rule}
-use Rattle.rendezvous_machine.proofs.Waves.{IsKnown, known}
-use Rattle.rendezvous_machine.proofs.Lists.{Standing, Jobs, IsOpenJob, NoJobs, Seated, FitsList, FitsJobs, JobsFit, jobs_of, CanFollow, IsAll, whole_there}
+use Rattle.rendezvous_machine.proofs.Waves.{known}
+use Rattle.rendezvous_machine.proofs.Lists.{Standing, Jobs, IsOpenJob, FitsList, FitsJobs, JobsFit, jobs_of, CanFollow, IsAll, whole_there}
 use Rattle.rendezvous_machine.proofs.Working.{fit_any, open_of, same_length}
 use Rattle.report_laws.specs.Widths.{KindsFit, WavesFit}
 use Rattle.report_laws.proofs.Values.{read_shows, job_fits}
 use Rattle.report_laws.proofs.Pools.{PoolFits}
-use Rattle.report_laws.proofs.Servings.{KnownFits, ServingFits, SeatFits, ReadFits, EachLive}
-use Rattle.report_laws.proofs.Steps.{ProgramFits, PlaceFits, Goes, step_goes, run_goes}
+use Rattle.report_laws.proofs.Servings.{SeatFits, ReadFits, EachLive}
+use Rattle.report_laws.proofs.Steps.{ProgramFits, PlaceFits, step_goes, run_goes}
 
 -- what is asked of a platform
 pub record PlatformFits (d : SetupData) : Type 0 where

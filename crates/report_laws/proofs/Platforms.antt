@@ -6,7 +6,7 @@ use Rattle.std.proofs.lemmas.Bool.{and_parts, leb-true}
 use Rattle.smm_base.specs.declared.kinds.HandlerType.{HandlerType}
 use Rattle.save_state_map.specs.Images.{ImageContents}
 use Rattle.cpu_regs.specs.Registers.{Registers}
-use Rattle.cpu_table.specs.Data.{SetupData, data_of}
+use Rattle.cpu_table.specs.Data.{data_of}
 use Rattle.cpu_table.specs.Distinct.{are_distinct}
 use Rattle.cpu_table.specs.Ranges.{op_fits, handler_fits, handlers_fit, procedure_fits, procedures_fit, is_name, is_answer, same_text}
 use Rattle.cpu_table.specs.declared.handlers.HandlerDef.{HandlerDef}
@@ -15,15 +15,15 @@ use Rattle.cpu_table.specs.declared.handlers.ProcedureDef.{ProcedureDef}
 use Rattle.cpu_table.specs.declared.setup.Setup.{Setup}
 use Rattle.chipset.proofs.StepLemmas.{platform_of}
 use Rattle.handler_registry.specs.Registrations.{Registrations, is_full, registered}
-use Rattle.serving_place.specs.Beginning.{registered_if, registered_from, registrations_of, program_of}
+use Rattle.serving_place.specs.Beginning.{registered_if, registered_from, registrations_of}
 use Rattle.serving_place.specs.Forms.{operations_in}
 use Rattle.rendezvous_machine.specs.Machines.{beginning}
 use Rattle.rendezvous_machine.proofs.Lists.{Standing}
 use Rattle.rendezvous_machine.proofs.Once.{first_fit, first_length}
 use Rattle.report_laws.specs.Widths.{NumbersFit, OperationsFit, HandlersFit}
 use Rattle.report_laws.proofs.Pools.{first_fits}
-use Rattle.report_laws.proofs.Servings.{EachLive, OpFits, live_push, next_serial}
-use Rattle.report_laws.proofs.Steps.{EachOp, ProgramFits}
+use Rattle.report_laws.proofs.Servings.{EachLive, live_push, next_serial}
+use Rattle.report_laws.proofs.Steps.{EachOp}
 use Rattle.report_laws.proofs.Machines.{PlatformFits, Numbered, begins}
 
 ops_fit : (n : ℕ) (ops : List OpDef) → n ≤ 64 → list_all (op_fits n) ops ≡ true → OperationsFit ops → EachOp ops

@@ -1,16 +1,16 @@
 -- The places of a pool have 64 bits.
-use Rattle.std.proofs.Common.{◌≡◌, ℕ, zero, suc, ◌+◌, ◌-◌, ◌*◌, ◌/◌, ◌<◌, ◌≤◌, ◌^◌, ◌∙◌, Bool, true, false, cond, eqb, leb, List, Option, Some, None, refl, sym, ap, subst, arith, inl, inr}
-use Rattle.std.specs.Prelude.{◌&&◌, nat_le, nat_lt, IfOk, Result, Ok, Err}
-use Rattle.std.proofs.lemmas.Bool.{cases_Bool, cases_lt, eqb-false, and_parts, leb-true, leb-false}
+use Rattle.std.proofs.Common.{◌≡◌, ℕ, ◌+◌, ◌-◌, ◌*◌, ◌/◌, ◌<◌, ◌≤◌, ◌^◌, ◌∙◌, Bool, true, false, cond, eqb, leb, List, Option, Some, None, refl, arith}
+use Rattle.std.specs.Prelude.{◌&&◌, nat_le, nat_lt, IfOk, Result}
+use Rattle.std.proofs.lemmas.Bool.{and_parts, leb-true, leb-false}
 use Rattle.cpu_table.specs.declared.setup.Smram.{Smram}
 use Rattle.cpu_table.specs.Layout.{areas_end, layout_refusal, layout_fits, is_accepted}
 use Rattle.cpu_table.specs.declared.layout.LayoutError.{LayoutError}
-use Rattle.cpu_table.specs.Ranges.{smram_fits, area_fits, is_between}
+use Rattle.cpu_table.specs.Ranges.{smram_fits, is_between}
 use Rattle.smbase_reloc.specs.Pools.{pool_of}
 use Rattle.smbase_reloc.proofs.AreaLemmas.{accepted}
 use Rattle.smram_pool.specs.declared.error.PoolError.{PoolError}
-use Rattle.smram_pool.specs.State.{PoolState, Taken, block_size, class_for, pages_for, run_taken, block_taken, block_allocated, run_allocated, pages_allocated, allocated, freed, freed_at, freed_block, found, fresh}
-use Rattle.smram_pool.specs.Partition.{IsMeasure, measured, pieces, IsClass, IsWellFormed}
+use Rattle.smram_pool.specs.State.{PoolState, Taken, class_for, pages_for, run_taken, block_taken, block_allocated, run_allocated, allocated, freed, freed_at, freed_block, found, fresh}
+use Rattle.smram_pool.specs.Partition.{IsClass, IsWellFormed}
 use Rattle.smram_pool.proofs.MeasureLemmas.{measured_pieces}
 use Rattle.smram_pool.proofs.WellFormedLemmas.{class_for_is, keeps_allocated, keeps_freed, fresh_is}
 use Rattle.smram_pool.proofs.RangeLemmas.{IsPiece, piece_within, run_is, taken_within}

@@ -1,6 +1,6 @@
 -- What serving knows fits the fields of labels: the numbers that it has, and those that an operation's label shows.
-use Rattle.std.proofs.Common.{◌≡◌, ℕ, zero, suc, ◌+◌, ◌<◌, ◌≤◌, ◌^◌, ◌∙◌, Bool, true, false, cond, eqb, List, [], ◌∷◌, ◌++◌, length, Option, Some, None, refl, sym, ap, subst, arith, length-set}
-use Rattle.std.specs.Prelude.{◌&&◌, ◌||◌, ◌==◌, nat_lt, nat_le, not, slice_index_or, slice_set, IfOk, IfSome, Result, Ok, Err, position}
+use Rattle.std.proofs.Common.{◌≡◌, ℕ, zero, suc, ◌+◌, ◌<◌, ◌≤◌, ◌^◌, ◌∙◌, Bool, true, false, cond, List, [], ◌∷◌, ◌++◌, length, Option, Some, None, refl, sym, subst, arith, length-set}
+use Rattle.std.specs.Prelude.{◌&&◌, ◌||◌, ◌==◌, nat_lt, nat_le, not, slice_index_or, slice_set, IfOk, IfSome, Result, Ok, Err}
 use Rattle.std.specs.List.{find, filter}
 use Rattle.std.proofs.lemmas.Bool.{and_parts, leb-true, ltb-true, eq-eqb, true≢false}
 use Rattle.std.proofs.lemmas.List.Quantifiers.{position-Some}
@@ -16,7 +16,7 @@ use Rattle.cpu_table.specs.declared.handlers.ProcedureDef.{ProcedureDef}
 use Rattle.cpu_table.specs.Ranges.{op_fits, is_variable, is_operand, same_text}
 use Rattle.sync_words.specs.declared.label.Label.{Label}
 use Rattle.sync_words.specs.declared.label.Label.TheVariants as say
-use Rattle.trace_text.specs.Spelling.{IsLabel, IsVariable}
+use Rattle.trace_text.specs.Spelling.{IsLabel}
 use Rattle.handler_registry.specs.declared.registration.Registration.{Registration}
 use Rattle.handler_registry.specs.Registrations.{Registrations, has_serial, is_full, registered, unregistered}
 use Rattle.smram_pool.specs.declared.error.PoolError.{PoolError}
@@ -24,8 +24,8 @@ use Rattle.smram_pool.specs.State.{PoolState, allocated, freed}
 use Rattle.serving_place.specs.declared.seat.Seat.{Seat}
 use Rattle.serving_place.specs.declared.seat.Seat.TheVariants.{Free, Open, Done}
 use Rattle.serving_place.specs.declared.token.Token.{Token}
-use Rattle.serving_place.specs.Serving.{Serving, number, put, put_on, seat, with_token, state_of, token_of, owner, dropped, IsDone, IsOutOn, collected, put_result, returned, ran, run_at, given_to}
-use Rattle.serving_place.specs.Operations.{Fits, after, Collects, ReadShows, CheckShows, WaitShows, AllocShows, RegisterShows, Starts, procedure_place, register_on, drop_on}
+use Rattle.serving_place.specs.Serving.{Serving, number, put, put_on, seat, with_token, state_of, owner, dropped, IsDone, collected, put_result, returned, ran, run_at, given_to}
+use Rattle.serving_place.specs.Operations.{Fits, after, Collects, WaitShows, AllocShows, RegisterShows, Starts, procedure_place, register_on, drop_on}
 use Rattle.report_laws.specs.Widths.{HasWidth, HasWidths}
 use Rattle.report_laws.proofs.Pools.{PoolFits, allocated_keeps, freed_keeps, place_fits}
 

@@ -1,12 +1,11 @@
 -- Each step of serving says a label whose numbers fit its fields, and leaves a place whose numbers fit.
-use Rattle.std.proofs.Common.{◌≡◌, ℕ, zero, suc, ◌+◌, ◌<◌, ◌≤◌, ◌^◌, List, [], ◌∷◌, length, Option, Some, None, refl, sym, ap, subst, ◌∙◌, arith}
+use Rattle.std.proofs.Common.{◌≡◌, ℕ, zero, suc, ◌+◌, ◌<◌, ◌≤◌, ◌^◌, List, [], ◌∷◌, length, Option, Some, None, refl, sym, subst, ◌∙◌, arith}
 use Rattle.std.specs.Prelude.{IfSome}
 use Rattle.smm_base.specs.declared.kinds.HandlerType.{HandlerType}
 use Rattle.smm_base.specs.declared.status.Status.{Status}
 use Rattle.smm_base.specs.declared.status.Status.TheVariants.{Success}
 use Rattle.cpu_table.specs.declared.handlers.OpDef.{OpDef}
 use Rattle.cpu_table.specs.declared.handlers.OpDef.TheVariants as op
-use Rattle.cpu_table.specs.declared.handlers.ProcedureDef.{ProcedureDef}
 use Rattle.sync_words.specs.declared.label.Label.{Label}
 use Rattle.sync_words.specs.declared.label.Label.TheVariants as say
 use Rattle.trace_text.specs.Spelling.{IsLabel, IsKind}
@@ -15,9 +14,9 @@ use Rattle.smi_manage.specs.declared.running.Running.{Running}
 use Rattle.serving_place.specs.declared.seat.Seat.{Seat}
 use Rattle.serving_place.specs.declared.seat.Seat.TheVariants.{Free, Open, Done}
 use Rattle.serving_place.specs.Serving.{Serving, seat, put_on, put_result, returned, collected}
-use Rattle.serving_place.specs.Operations.{Fits, after, Collects}
-use Rattle.serving_place.specs.Forms.{Event, Own, Ran, Program, operations_of, status_of, by_left, by_turn, by_collect, turn_of, is_turn}
-use Rattle.serving_place.specs.Places.{Call, OpenWalk, Begun, First, Started, Awaited, Place, one_less, levels_left, at_left, at_turn, at_collect, awaits_after, begun_by, MayOperate, after_operating, MayOpen, with_walk, MayDo, after_doing, MayTurn, after_turn, with_return, MayInCall, after_in_call, MayInWalk, after_in_walk, MayInWalks, after_in_walks, MayBegun, after_begun, Accepts, next}
+use Rattle.serving_place.specs.Operations.{Fits, Collects}
+use Rattle.serving_place.specs.Forms.{Own, Ran, Program, operations_of, by_left, by_turn, by_collect, turn_of, is_turn}
+use Rattle.serving_place.specs.Places.{Call, OpenWalk, Begun, First, Started, Awaited, Place, one_less, levels_left, at_left, at_turn, at_collect, awaits_after, begun_by, MayOperate, after_operating, MayOpen, with_walk, MayDo, after_doing, MayTurn, after_turn, MayInCall, after_in_call, MayInWalk, after_in_walk, MayInWalks, after_in_walks, MayBegun, after_begun, Accepts, next}
 use Rattle.report_laws.specs.Widths.{KindsFit}
 use Rattle.report_laws.proofs.Servings.{ServingFits, OpFits, ReadFits, after_fits, collects_few, collected_fits, returned_fits, ran_fits, live_found}
 

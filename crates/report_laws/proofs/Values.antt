@@ -1,16 +1,13 @@
 -- The value that a read shows has 64 bits, whatever the image.
-use Rattle.std.proofs.Common.{◌≡◌, ℕ, zero, suc, ◌+◌, ◌<◌, ◌≤◌, ◌^◌, ◌∙◌, Bool, true, false, List, [], ◌∷◌, ◌++◌, length, get_or, take, replicate, Option, Some, None, refl, sym, ap, subst, arith, inl, inr}
+use Rattle.std.proofs.Common.{◌≡◌, ℕ, zero, suc, ◌+◌, ◌<◌, ◌≤◌, ◌^◌, ◌∙◌, Bool, true, false, List, [], ◌∷◌, ◌++◌, length, get_or, take, replicate, Option, Some, None, refl, arith}
 use Rattle.std.specs.Prelude.{◌/◌, ◌%◌, ◌==◌, ◌&&◌, not, nat_lt, is_none, if◌then◌else◌, option_map, unwrap_or}
 use Rattle.std.specs.Int.{byte_at, bytes_low_first}
-use Rattle.std.proofs.lemmas.Bool.{cases_lt}
-use Rattle.std.proofs.lemmas.List.{get_or_past, get_or-take}
-use Rattle.byteorder.specs.Endian.{little_number, little_bytes}
+use Rattle.byteorder.specs.Endian.{little_bytes}
 use Rattle.byteorder.specs.Numbers.{little_from-lt}
 use Rattle.smm_base.specs.declared.status.Status.{Status}
 use Rattle.smm_base.specs.declared.status.Status.TheVariants.{Success, InvalidParameter, NotFound}
 use Rattle.smm_base.specs.declared.registers.Register.TheVariants as registers
 use Rattle.smm_base.specs.Register.{register_number}
-use Rattle.save_state_map.specs.declared.field.Field.{Field}
 use Rattle.save_state_map.specs.declared.field.Field.TheVariants.{Efer}
 use Rattle.save_state_map.specs.declared.field.Place.{Place}
 use Rattle.save_state_map.specs.Fields.{field_place}
@@ -18,7 +15,7 @@ use Rattle.save_state_map.specs.Images.{ImageContents, number_at}
 use Rattle.save_state_access.specs.declared.io.IoInfo.{IoInfo}
 use Rattle.save_state_access.specs.declared.table.Parts.{Parts}
 use Rattle.save_state_access.specs.declared.table.Parts.TheVariants.{Missing, One, Pair}
-use Rattle.save_state_access.specs.IoInfo.{io_told, io_bytes, is_told, number_in}
+use Rattle.save_state_access.specs.IoInfo.{io_told, io_bytes, number_in}
 use Rattle.save_state_access.specs.Reading.{ReadAnswer, read_answer, register_at, register_bytes, field_bytes, halves, lma_byte, bytes_at, width_at}
 use Rattle.save_state_access.specs.Table.{parts_numbered}
 use Rattle.save_state_access.proofs.LowBytes.{IsBytes, append_bytes}
@@ -26,8 +23,8 @@ use Rattle.cpu_table.specs.declared.handlers.Act.{Act}
 use Rattle.cpu_table.specs.declared.handlers.Act.TheVariants.{Get, Put}
 use Rattle.cpu_table.specs.declared.handlers.ProcedureDef.{ProcedureDef}
 use Rattle.handler_ops.specs.declared.desk.Job.{Job}
-use Rattle.handler_ops.specs.Course.{value_on, shown_value, read_of}
-use Rattle.handler_ops.specs.Procedures.{read_whole, act_on, procedure_on, job_on}
+use Rattle.handler_ops.specs.Course.{value_on, shown_value}
+use Rattle.handler_ops.specs.Procedures.{act_on, procedure_on, job_on}
 use Rattle.std.specs.Prelude.{slice_get}
 
 byte_few : (i y : ℕ) → byte_at i y < 256

@@ -24,9 +24,9 @@ use Rattle.sync_words.specs.declared.signal.TheConstants.{NO_SIGNAL, DELIVERABLE
 use Rattle.sync_words.specs.declared.word.WordId.{WordId}
 use Rattle.sync_words.specs.declared.word.WordId.TheVariants as word
 use Rattle.sync_words.specs.Access.{applied, signal_of, IsWithin, LeavesWord}
-use Rattle.sync_words.specs.Steps.{IsWord, IsWantWithin, found_of, is_ready, IsAccepted, Accepts, Taken}
+use Rattle.sync_words.specs.Steps.{IsWord, IsWantWithin, found_of, is_ready, IsAccepted, Accepts}
 use Rattle.trace_text.specs.Spelling.{HasUpTo}
-use Rattle.handler_ops.specs.Sessions.{Session, first_session}
+use Rattle.handler_ops.specs.Sessions.{first_session}
 use Rattle.chipset.specs.Bounds.{IsPlatform}
 use Rattle.chipset.proofs.StepLemmas.{begins}
 use Rattle.cpu_program.specs.declared.cargo.Cargo.{Cargo}
@@ -37,7 +37,7 @@ use Rattle.cpu_program.specs.Programs.{want_of, gift_of, given, received, taken,
 use Rattle.cpu_program.proofs.PlatformLemmas.{taken_of, given_of, received_of}
 use Rattle.cpu_program.proofs.StayLemmas.{given_stays, received_stays, taken_stays, actor_stays}
 use Rattle.rendezvous_core.specs.declared.stepped.Stepped.TheVariants as stepped
-use Rattle.rendezvous_core.specs.Worlds.{Words, Lying, World, Turn, Moves, Waits, Rests, read, write, bsp_at_first, first_words, own_chair, first_actors, start, lying_on, lay, gives, takes, changes, accesses, turn_wanting, turn, turned, step_of, step, with_event, events_from, world_after}
+use Rattle.rendezvous_core.specs.Worlds.{Words, Lying, World, Turn, Moves, Waits, Rests, read, write, bsp_at_first, first_words, own_chair, first_actors, start, lying_on, lay, gives, takes, changes, accesses, turn_wanting, turn, turned, step_of, step, with_event, events_from}
 use Rattle.rendezvous_core.proofs.NumberLemmas.{taken_number}
 use Rattle.rendezvous_core.proofs.Scheduling.{after_schedule}
 
