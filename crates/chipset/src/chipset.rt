@@ -2,7 +2,7 @@ ghost use Rattle.std.specs.Prelude.{◌≡◌, ◌<◌, ◌+◌, is_none};
 ghost use Rattle.cpu_table.specs.Data.{data_of};
 ghost use Rattle.cpu_table.specs.Waves.{blocked_in};
 ghost use Rattle.sync_words.specs.Steps.{wants, IsWantWithin};
-ghost use Rattle.chipset.specs.Bounds.{IsPlatform, IsChipset};
+ghost use Rattle.chipset.specs.Bounds.{IsChipset};
 ghost use Rattle.chipset.specs.Chipsets.{after_wave, first_chipset, off_row, raise_row, signal_in, taken_at_row, want_at_row, watched_row};
 
 use crate::arrivals::{arrivals_of, count_blocked, signal_for};

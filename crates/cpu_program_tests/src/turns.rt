@@ -1,7 +1,7 @@
 ghost use Rattle.std.specs.Prelude.{◌≡◌, ◌≤◌, IfSome, true};
 ghost use Rattle.cpu_table.specs.Data.{data_of};
 ghost use Rattle.sync_words.specs.Access.{IsWithin};
-ghost use Rattle.sync_words.specs.Steps.{Accepts, IsAccepted};
+ghost use Rattle.sync_words.specs.Steps.{IsAccepted};
 ghost use Rattle.sync_words.specs.declared.event.Want.TheVariants as want;
 ghost use Rattle.cpu_program.specs.Processors.{can_run};
 ghost use Rattle.cpu_program.specs.Programs.{want_of};

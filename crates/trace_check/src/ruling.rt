@@ -1,6 +1,5 @@
 ghost use Rattle.std.specs.Prelude.{length, ◌≡◌, ◌+◌, ◌==◌, not};
 ghost use Rattle.std.specs.List.{count_by};
-ghost use Rattle.cpu_table.specs.Data.{data_of};
 ghost use Rattle.cpu_table.specs.Waves.{is_blocked, blocked_in};
 ghost use Rattle.sync_words.specs.declared.label.Label.TheVariants as say;
 ghost use Rattle.trace_check.specs.Judged.{member, setup_of};
