@@ -1,10 +1,11 @@
 -- A text, and its parts before and behind a separator.
-use Rattle.std.proofs.Common.{◌≡◌, ◌≢◌, ℕ, suc, ◌<◌, Bool, true, false, not, ◌==◌, List, [], ◌∷◌, ◌++◌, length, get_or, Option, Some, None, option_map, refl, ap, sym, ◌∙◌, if◌then◌else◌, arith}
-use Rattle.std.specs.List.{list_all}
-use Rattle.std.proofs.lemmas.Bool.{and_parts, and_from, not-true, not_from_false, eqb-true, eq-eqb, ne_eqb}
+use Rattle.std.proofs.Common.{◌≡◌, ◌≢◌, ℕ, suc, ◌+◌, ◌<◌, ◌≤◌, Bool, true, false, not, nat_lt, ◌==◌, List, [], ◌∷◌, ◌++◌, length, take, drop, get_or, Option, Some, None, option_map, refl, ap, sym, subst, ◌∙◌, cond, if◌then◌else◌, arith}
+use Rattle.std.specs.List.{list_all, position, position_or_len}
+use Rattle.std.proofs.lemmas.Bool.{and_parts, and_from, both_ways, not-true, not_from_false, eqb-true, eq-eqb, ltb-false, ne_eqb}
+use Rattle.std.proofs.lemmas.List.{drop_more, get_or-take, length-take-le, take-append-drop}
+use Rattle.std.proofs.lemmas.List.Quantifiers.{position-Some}
+use Rattle.std.proofs.lemmas.List.Sums.{prefix_len_passes}
 use Rattle.std.proofs.lemmas.Option.{none-some, some_pair_parts}
-use Rattle.std.proofs.lemmas.Str.Pattern.{IsSplitOnceResult, split_parts}
-use denote.Ref.{Bor}
 use Rattle.trace_text.specs.Readings.{split_first}
 
 -- no byte of the text is the separator
@@ -49,9 +50,31 @@ pub split_whole : (c : ℕ) (w x y : List ℕ) → split_first c w ≡ Some (x, 
 split_whole c [] x y found = absurd (none-some (x, y) found)
 split_whole c (b ∷ bs) x y found = whole_step c b bs x y (b == c) (split_first c bs) refl (split_whole c bs) found
 
--- what `split_once` gives
-pub split_is : (c : ℕ) (w : List ℕ) (r : Option (Bor (List ℕ) × Bor (List ℕ))) → IsSplitOnceResult c w r → c < 128 → option_map (λ parts. (parts.0.now, parts.1.now)) r ≡ split_first c w
-split_is c w None gives small = sym (split_none c w (lacks_from c w (split_parts c w None gives small)))
-split_is c w (Some (x, y)) gives small =
-    let (whole, first) = split_parts c w (Some (x, y)) gives small in
-    sym (ap (split_first c) whole ∙ split_gives c x.now y.now (lacks_from c x.now first))
+-- a separator that stands nowhere first
+passes_all : (c : ℕ) (w : List ℕ) (t : Bool) → nat_lt (position_or_len (λ b. b == c) w) (length w) ≡ t →
+    ◌≡◌ {A = Option ℕ} (cond t (Some (position_or_len (λ b. b == c) w)) None) None → length w ≤ position_or_len (λ b. b == c) w
+passes_all c w true is found = absurd (none-some (position_or_len (λ b. b == c) w) (sym found))
+passes_all c w false is found = ltb-false (position_or_len (λ b. b == c) w) (length w) is
+
+pub place_none : (c : ℕ) (w : List ℕ) → position (λ b. b == c) w ≡ None → split_first c w ≡ None
+place_none c w found =
+    let long : length w ≤ position_or_len (λ b. b == c) w = passes_all c w (nat_lt (position_or_len (λ b. b == c) w) (length w)) refl found in
+    split_none c w (lacks_from c w (λ i within is. both_ways (get_or w i 0 == c)
+        (not-true (get_or w i 0 == c) (prefix_len_passes (λ b. not (b == c)) w i 0 (omega (arith, within, long)))) (eq-eqb (get_or w i 0) c is)))
+
+-- the parts around the place where it stands first
+pub place_some : (c : ℕ) (w : List ℕ) (i : ℕ) → position (λ b. b == c) w ≡ Some i → split_first c w ≡ Some (take i w, drop (i + 1) w)
+place_some c w i found =
+    let (within, here, before) = position-Some (λ b. b == c) w i 0 found in
+    let whole : w ≡ take i w ++ c ∷ drop (i + 1) w =
+        sym (take-append-drop i w) ∙ ap (λ t. take i w ++ t) (drop_more w i 0 within ∙ ap (λ t. t ∷ drop (i + 1) w) (eqb-true (get_or w i 0) c here)) in
+    ap (split_first c) whole ∙ split_gives c (take i w) (drop (i + 1) w)
+        (lacks_from c (take i w) (λ k inside is.
+            let early : k < i = subst (λ n. k < n) (length-take-le i w (omega (arith, within))) inside in
+            both_ways (get_or w k 0 == c) (before k early) (eq-eqb (get_or w k 0) c (sym (get_or-take i w k 0 early) ∙ is))))
+
+-- a separator of ASCII is found at an ASCII character
+pub place_small : (c : ℕ) (w : List ℕ) (i : ℕ) → c < 128 → position (λ b. b == c) w ≡ Some i → (i < length w) × (get_or w i 0 < 128)
+place_small c w i small found =
+    let (within, here, _) = position-Some (λ b. b == c) w i 0 found in
+    (within, subst (λ b. b < 128) (sym (eqb-true (get_or w i 0) c here)) small)
