@@ -31,6 +31,7 @@ impl Processor {
     }
 
     /// The visit ends: the processor loads its registers from the image on its own desk, and goes on as the image says.
+    #[inline(never)]
     pub fn resume(&mut self) -> Label
         requires { HasImages self.old }
         ensures label { result ≡ resume_label (own_desk (processor_in self.old)) }
@@ -49,6 +50,7 @@ impl Processor {
 }
 
 // The registers are saved into the image on the desk of a processor, if it is held.
+#[inline(never)]
 fn save(held: &mut Desks, cpu: u16, registers: &Regs, cause: &Cause)
     requires kinds { AreOfKind registers.now.kind held.old }
     requires own { cpu < length held.old }

@@ -35,6 +35,7 @@ fn tell(attempt: Attempt, applied: Applied, program: &mut Program) -> Stepped
 }
 
 // The word changes, and the program lays a thing on it. Without that thing it waits.
+#[inline(never)]
 #[tactic(auto, using(crate::proofs::NumberLemmas::given_number))]
 fn give(
     attempt: Attempt,
@@ -63,6 +64,7 @@ fn give(
 }
 
 // The word changes, and the program takes what lies on it. Where nothing lies it waits.
+#[inline(never)]
 #[tactic(auto, using(crate::proofs::NumberLemmas::received_number))]
 fn take(
     attempt: Attempt,

@@ -1,5 +1,5 @@
 -- The report of a run. Its form is the project's own.
-use Rattle.std.specs.Prelude.{◌≡◌, ℕ, ◌-◌, ◌==◌, Bool, true, false, not, List, [], ◌∷◌, ◌++◌, Option, length, count_by}
+use Rattle.std.specs.Prelude.{◌≡◌, ℕ, ◌-◌, ◌==◌, Bool, true, false, not, List, [], ◌∷◌, ◌++◌, Option, length, count_by, if◌then◌else◌}
 use Rattle.std.specs.List.{flat_map}
 use Rattle.smm_base.specs.Sink.{appended}
 use Rattle.sync_words.specs.declared.event.Event.{Event}
@@ -27,9 +27,21 @@ is_served _ = false
 abbrev pub session_count : List Event → ℕ
 session_count events = count_by (λ event. is_end event.label) events
 
+-- how many waves were announced
+abbrev pub wave_count : List Event → ℕ
+wave_count events = count_by (λ event. is_wave event.label) events
+
+-- how many waves were served
+abbrev pub served_count : List Event → ℕ
+served_count events = count_by (λ event. is_served event.label) events
+
 -- how many waves were announced and not served
 abbrev pub unserved_count : List Event → ℕ
-unserved_count events = count_by (λ event. is_wave event.label) events - count_by (λ event. is_served event.label) events
+unserved_count events = wave_count events - served_count events
+
+-- 1 where a test holds
+abbrev pub one_if : Bool → ℕ
+one_if test = if test then 1 else 0
 
 -- the lines of the events in their order, where there are so many processors
 abbrev pub event_lines : ℕ → List Event → List ℕ

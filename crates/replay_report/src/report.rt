@@ -3,7 +3,7 @@ ghost use Rattle.smm_base.specs.Calls.{Leads};
 ghost use Rattle.smm_base.specs.Faults.{Rose};
 ghost use Rattle.smm_base.specs.Sink.{appended, GainsPrefix};
 ghost use Rattle.sync_words.specs.Texts.{event_line};
-ghost use Rattle.replay_report.specs.Report.{is_end, is_wave, is_served, session_count, unserved_count, event_lines, last_line, report_text, IsBuffered};
+ghost use Rattle.replay_report.specs.Report.{is_end, is_wave, is_served, one_if, session_count, wave_count, served_count, event_lines, last_line, report_text, IsBuffered};
 
 use smm_base::{NoMemory, Sink, WriteError, write_all};
 use std::alloc::Global;
@@ -111,39 +111,46 @@ fn make_room<K: Sink>(buffer: &mut Vec<u8>, out: &mut K) -> Result<(), WriteErro
 pub fn push_totals(events: &[Event], complete: bool, out: &mut Vec<u8>) -> Result<(), NoMemory>
     ensures { OnOk result (out.new.items ≡ out.old.items ++ last_line events.now complete) }
 {
+    let counts = count(events);
     let totals = Totals {
         complete,
         events: events.len() as u64,
-        sessions: count_sessions(events),
-        unserved: count_unserved(events),
+        sessions: counts.sessions,
+        unserved: counts.announced.saturating_sub(counts.served),
     };
     write_line(totals, out)
 }
 
-// How many sessions were ended.
-fn count_sessions(events: &[Event]) -> u64
-    ensures { result ≡ session_count events.now }
-{
-    let ended = events
-        .iter()
-        .filter(|event| ends_session(event.label))
-        .count();
-    ended as u64
+// What is counted of events: the sessions that ended, the waves that were announced, and those that were served.
+#[derive(Clone, Copy)]
+struct Counts {
+    sessions: u64,
+    announced: u64,
+    served: u64,
 }
 
-// How many waves were announced and not served.
-fn count_unserved(events: &[Event]) -> u64
-    ensures { result ≡ unserved_count events.now }
+fn count(events: &[Event]) -> Counts
+    ensures sessions { result.sessions ≡ session_count events.now }
+    ensures announced { result.announced ≡ wave_count events.now }
+    ensures served { result.served ≡ served_count events.now }
 {
-    let announced = events
-        .iter()
-        .filter(|event| announces_wave(event.label))
-        .count();
-    let served = events
-        .iter()
-        .filter(|event| serves_wave(event.label))
-        .count();
-    announced.saturating_sub(served) as u64
+    let mut counts = Counts {
+        sessions: 0,
+        announced: 0,
+        served: 0,
+    };
+    for event in events {
+        counts.sessions += one_if(ends_session(event.label));
+        counts.announced += one_if(announces_wave(event.label));
+        counts.served += one_if(serves_wave(event.label));
+    }
+    counts
+}
+
+fn one_if(test: bool) -> u64
+    ensures { result ≡ one_if test }
+{
+    if test { 1 } else { 0 }
 }
 
 fn ends_session(label: Label) -> bool

@@ -60,18 +60,18 @@ pub place_none : (c : ℕ) (w : List ℕ) → position (λ b. b == c) w ≡ None
 place_none c w found =
     let long : length w ≤ position_or_len (λ b. b == c) w = passes_all c w (nat_lt (position_or_len (λ b. b == c) w) (length w)) refl found in
     split_none c w (lacks_from c w (λ i within is. both_ways (get_or w i 0 == c)
-        (not-true (get_or w i 0 == c) (prefix_len_passes (λ b. not (b == c)) w i 0 (omega (arith, within, long)))) (eq-eqb (get_or w i 0) c is)))
+    (not-true (get_or w i 0 == c) (prefix_len_passes (λ b. not (b == c)) w i 0 (omega (arith, within, long)))) (eq-eqb (get_or w i 0) c is)))
 
 -- the parts around the place where it stands first
 pub place_some : (c : ℕ) (w : List ℕ) (i : ℕ) → position (λ b. b == c) w ≡ Some i → split_first c w ≡ Some (take i w, drop (i + 1) w)
 place_some c w i found =
     let (within, here, before) = position-Some (λ b. b == c) w i 0 found in
     let whole : w ≡ take i w ++ c ∷ drop (i + 1) w =
-        sym (take-append-drop i w) ∙ ap (λ t. take i w ++ t) (drop_more w i 0 within ∙ ap (λ t. t ∷ drop (i + 1) w) (eqb-true (get_or w i 0) c here)) in
+    sym (take-append-drop i w) ∙ ap (λ t. take i w ++ t) (drop_more w i 0 within ∙ ap (λ t. t ∷ drop (i + 1) w) (eqb-true (get_or w i 0) c here)) in
     ap (split_first c) whole ∙ split_gives c (take i w) (drop (i + 1) w)
-        (lacks_from c (take i w) (λ k inside is.
-            let early : k < i = subst (λ n. k < n) (length-take-le i w (omega (arith, within))) inside in
-            both_ways (get_or w k 0 == c) (before k early) (eq-eqb (get_or w k 0) c (sym (get_or-take i w k 0 early) ∙ is))))
+    (lacks_from c (take i w) (λ k inside is.
+    let early : k < i = subst (λ n. k < n) (length-take-le i w (omega (arith, within))) inside in
+    both_ways (get_or w k 0 == c) (before k early) (eq-eqb (get_or w k 0) c (sym (get_or-take i w k 0 early) ∙ is))))
 
 -- a separator of ASCII is found at an ASCII character
 pub place_small : (c : ℕ) (w : List ℕ) (i : ℕ) → c < 128 → position (λ b. b == c) w ≡ Some i → (i < length w) × (get_or w i 0 < 128)
