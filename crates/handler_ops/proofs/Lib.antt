@@ -6,3 +6,4 @@ pub mod RowSteps
 pub mod RowFits
 pub mod Going
 pub mod Answered
+pub mod Naming

@@ -294,7 +294,7 @@ turn_leads : (t : Setting) (there : ℕ → Bool) (course : Course) (u : Turn) �
     → Leads t.program course.place (said (move_of t course u) u.now) (course_after t course u).place
 turn_leads t there course u sound allowed = step_leads t u.held course u.found u.now (sound_here t there course u sound allowed) allowed.came
 
-turn_sound : (t : Setting) (there : ℕ → Bool) (course : Course) (u : Turn) → IsSound t there course.place.state → IsAllowed t there course u
+pub turn_sound : (t : Setting) (there : ℕ → Bool) (course : Course) (u : Turn) → IsSound t there course.place.state → IsAllowed t there course u
     → IsSound t (is_held u.now) (course_after t course u).place.state
 turn_sound t there course u sound allowed =
     let p = course.place in

@@ -5,3 +5,4 @@ pub mod Sessions
 pub mod Told
 pub mod NextRow
 pub mod Answering
+pub mod Needs
