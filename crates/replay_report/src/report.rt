@@ -5,10 +5,11 @@ ghost use Rattle.smm_base.specs.Sink.{appended, GainsPrefix};
 ghost use Rattle.sync_words.specs.Texts.{event_line};
 ghost use Rattle.replay_report.specs.Report.{is_end, is_wave, is_served, one_if, session_count, wave_count, served_count, event_lines, last_line, report_text, IsBuffered};
 
+use repeated_lines::LineWriter;
 use smm_base::{NoMemory, Sink, WriteError, write_all};
 use std::alloc::Global;
 use sync_words::{Event, Label};
-use trace_text::{Totals, write_event, write_line};
+use trace_text::{Totals, write_line};
 
 /// How many bytes of a report are handed to the sink at once, at most.
 const PIECE: usize = 65536;
@@ -55,26 +56,28 @@ fn write_lines<K: Sink>(
     ensures failed { IsErrOf result WriteError.Failed → Rose (K.faults out.old) (K.faults out.new) }
     ensures moved { Leads K.moves out.old out.new }
 {
+    let mut lines = LineWriter::new(processors);
     for event in events {
-        push_line(processors, event, buffer, out)?;
+        push_line(&mut lines, event, buffer, out)?;
     }
     Ok(())
 }
 
 // Adds an event's line to the buffer, which is handed over before where it might not fit.
 fn push_line<K: Sink>(
-    processors: u16,
+    lines: &mut LineWriter,
     event: &Event,
     buffer: &mut Vec<u8>,
     out: &mut K,
 ) -> Result<(), WriteError>
-    ensures buffered { OnOk result (IsBuffered (K.written out.old) (K.written out.new) buffer.new.items (buffer.old.items ++ event_line processors event.now)) }
+    ensures buffered { OnOk result (IsBuffered (K.written out.old) (K.written out.new) buffer.new.items (buffer.old.items ++ event_line lines.old event.now)) }
     ensures prefix { OnErr result (GainsPrefix (K.written out.old) (K.written out.new) buffer.old.items) }
     ensures failed { IsErrOf result WriteError.Failed → Rose (K.faults out.old) (K.faults out.new) }
+    ensures platform { lines.new ≡ lines.old }
     ensures moved { Leads K.moves out.old out.new }
 {
     make_room(buffer, out)?;
-    write_event(processors, event, buffer).map_err(|_| WriteError::NoMemory)
+    lines.write(event, buffer).map_err(|_| WriteError::NoMemory)
 }
 
 // Adds the last line to the buffer, which is handed over before where it might not fit.

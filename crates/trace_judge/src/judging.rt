@@ -5,18 +5,20 @@ ghost use Rattle.trace_judge.specs.Verdicts.{advanced, answer_to, by_answer, clo
 use crate::fault::{LineFault, TraceFault};
 use crate::tally::Tally;
 use crate::walk::Walk;
+use repeated_lines::LineReader;
 use sync_words::Event;
 use trace_check::Machine;
-use trace_text::{Totals, read_event, read_last};
+use trace_text::{Totals, read_last};
 
 /// The rule that the numbers of the last line are the trace's.
 const NUMBERS: u8 = 32;
 
 // The event whose line stands at a place, and the place behind it.
-fn event_at(processors: u16, bytes: &[u8], at: usize) -> Option<(Event, usize)>
-    ensures { result ≡ event_at processors bytes.now at }
+fn event_at(lines: &mut LineReader, bytes: &[u8], at: usize) -> Option<(Event, usize)>
+    ensures event { result ≡ event_at lines.old bytes.now at }
+    ensures platform { lines.new ≡ lines.old }
 {
-    read_event(processors, bytes, at).ok()
+    lines.read(bytes, at).ok()
 }
 
 // The last line that stands at a place, and the place behind it.
@@ -100,8 +102,9 @@ pub fn judge(machine: Machine, processors: u16, bytes: &[u8]) -> Result<(), Trac
         at: 0,
         tally: Tally::new(),
     };
+    let mut lines = LineReader::new(processors);
     for _line in 0..bytes.len() {
-        match event_at(processors, bytes, walk.at) {
+        match event_at(&mut lines, bytes, walk.at) {
             Some((event, next)) => take(&mut walk, &event, next)?,
             None => return end(&walk, bytes),
         }

@@ -1,4 +1,4 @@
-use Rattle.std.proofs.Common.{take}
+use Rattle.std.proofs.Common.{◌≡◌, take}
 use Rattle.smm_base.specs.Calls.{Leads}
 use Rattle.replay_report.specs.Report.{IsBuffered, event_lines}
 use Rattle.replay_report.proofs.report.write_lines.Given as goal
@@ -6,5 +6,6 @@ use Rattle.replay_report.proofs.report.write_lines.Given as goal
 abbrev pub invariant-loop-event : goal.invariant-loop-event
 invariant-loop-event g l = record {
   buffered : IsBuffered (g.K.Sink.written l.fn.out) (g.K.Sink.written l.out) l.buffer.items (event_lines l.processors (take l.event-index l.events));
+  platform : l.lines ≡ l.processors;
   moved : Leads g.K.Sink.moves l.fn.out l.out;
 }

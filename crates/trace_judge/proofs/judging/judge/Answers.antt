@@ -13,8 +13,9 @@ loop-line-preserved c =
     let read : Event × ℕ = (c.in-Some.event, c.in-Some.next) in
     let taken = c.in_ok-take-in-Some.ensures in
     record {
-      judged = next_line c.args.processors line bytes w c.take.new.walk read c.loop-line-test.true (sym c.in-Some.ensures) taken.accepted taken.advanced ∙ c.loop-line.invariant.judged;
+      judged = next_line c.args.processors line bytes w c.take.new.walk read c.loop-line-test.true (sym (rw c.loop-line.invariant.platform at c.in-Some.ensures.event)) taken.accepted taken.advanced ∙ c.loop-line.invariant.judged;
       few = next_below line w c.take.new.walk read c.loop-line.invariant.few taken.advanced;
+      platform = c.event_at.ensures.platform ∙ c.loop-line.invariant.platform;
     }
 
 pub returns-in_err-take-in-Some : goal.returns-in_err-take-in-Some
@@ -23,14 +24,14 @@ returns-in_err-take-in-Some c =
     let bytes = c.args.bytes.now in
     let read : Event × ℕ = (c.in-Some.event, c.in-Some.next) in
     let broken =
-    broken_line c.args.processors c.loop-line._line bytes c.loop-line.walk read c.in_err-take-in-Some.field-0.0 c.loop-line-test.true (sym c.in-Some.ensures) (sym c.in_err-take-in-Some.ensures.answer)
+    broken_line c.args.processors c.loop-line._line bytes c.loop-line.walk read c.in_err-take-in-Some.field-0.0 c.loop-line-test.true (sym (rw c.loop-line.invariant.platform at c.in-Some.ensures.event)) (sym c.in_err-take-in-Some.ensures.answer)
     in
     rw (p.1, p.2) (sym broken ∙ c.loop-line.invariant.judged ∙ whole c.args.processors c.args.machine bytes)
 
 pub returns-in-None : goal.returns-in-None
 returns-in-None c =
     let bytes = c.args.bytes.now in
-    let ended = ended_line c.args.processors c.loop-line._line bytes c.loop-line.walk c.loop-line-test.true (sym c.in-None.ensures) in
+    let ended = ended_line c.args.processors c.loop-line._line bytes c.loop-line.walk c.loop-line-test.true (sym (rw c.loop-line.invariant.platform at c.in-None.ensures.event)) in
     c.end.ensures ∙ sym ended ∙ c.loop-line.invariant.judged ∙ whole c.args.processors c.args.machine bytes
 
 pub returns : goal.returns

@@ -7,4 +7,5 @@ abbrev pub invariant-loop-line : goal.invariant-loop-line
 invariant-loop-line l = record {
   judged : verdict_within (length l.bytes - l._line) l.processors l.bytes l.walk ≡ verdict_within (length l.bytes) l.processors l.bytes (first_walk l.fn.machine);
   few : IsTallyBelow (l._line + 1) l.walk.tally;
+  platform : l.lines ≡ l.processors;
 }

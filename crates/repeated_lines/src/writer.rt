@@ -1,0 +1,138 @@
+ghost use Rattle.std.specs.Prelude.{◌≡◌, ◌++◌, IfSome, IsTrue, OnOk, OnErr};
+ghost use Rattle.sync_words.specs.Texts.{event_line};
+
+use crate::kept::{KeptLine, LINES};
+use smm_base::NoMemory;
+use std::marker::Model;
+use sync_words::{Access, Event, Label, WordId};
+use trace_text::write_event;
+
+/// A writer of the lines of events on a platform of so many processors, as which contracts see it.
+#[derive(Drop)]
+pub struct LineWriter {
+    processors: u16,
+    lines: [Option<KeptLine>; 128],
+}
+
+impl Model for LineWriter {
+    ghost use Rattle.std.specs.Prelude.{ℕ};
+
+    ghost Value = { ℕ };
+
+    ghost view = { λ w. w.processors };
+}
+
+impl LineWriter {
+    pub fn new(processors: u16) -> LineWriter
+        ensures { result ≡ processors }
+    {
+        LineWriter {
+            processors,
+            lines: [None; LINES],
+        }
+    }
+
+    // The line of an event, where it was written before.
+    fn again<'a>(&'a self, event: &Event) -> Option<&'a [u8]>
+        ensures { IfSome result (λ line. line.now ≡ event_line self.now event.now) }
+    {
+        match &self.lines[usize::from(event.actor) % LINES] {
+            Some(line) => again(self.processors, line, event),
+            None => None,
+        }
+    }
+
+    // Appends the line of an event, and keeps it.
+    fn anew(&mut self, event: &Event, out: &mut Vec<u8>) -> Result<(), NoMemory>
+        ensures gains_line { OnOk result (out.new.items ≡ out.old.items ++ event_line self.old event.now) }
+        ensures kept { OnErr result (out.new.items ≡ out.old.items) }
+        ensures stays { self.new ≡ self.old }
+    {
+        let before = out.len();
+        write_event(self.processors, event, out)?;
+        self.lines[usize::from(event.actor) % LINES] = KeptLine::new(
+            self.processors,
+            *event,
+            &out[before..],
+        );
+        Ok(())
+    }
+
+    /// Appends the one line of an event, with its line end, as [`trace_text::write_event`] writes it. Takes no memory but what
+    /// `out` grows by.
+    ///
+    /// # Errors
+    ///
+    /// `NoMemory` where `out` can't grow. Then it holds what it held.
+    pub fn write(&mut self, event: &Event, out: &mut Vec<u8>) -> Result<(), NoMemory>
+        ensures gains_line { OnOk result (out.new.items ≡ out.old.items ++ event_line self.old event.now) }
+        ensures kept { OnErr result (out.new.items ≡ out.old.items) }
+        ensures stays { self.new ≡ self.old }
+    {
+        match self.again(event) {
+            Some(line) => {
+                out.extend_from_slice(line)?;
+                Ok(())
+            }
+            None => self.anew(event, out),
+        }
+    }
+}
+
+fn is_same_word(one: WordId, other: WordId) -> bool
+    ensures { IsTrue result → one ≡ other }
+{
+    match (one, other) {
+        (WordId::Counter, WordId::Counter)
+        | (WordId::Bsp, WordId::Bsp)
+        | (WordId::Inside, WordId::Inside)
+        | (WordId::Insync, WordId::Insync)
+        | (WordId::Source, WordId::Source)
+        | (WordId::Except, WordId::Except) => true,
+        (WordId::Pend(one), WordId::Pend(other)) => one == other,
+        (WordId::Present(one), WordId::Present(other)) => one == other,
+        (WordId::Run(one), WordId::Run(other)) => one == other,
+        (WordId::Busy(one), WordId::Busy(other)) => one == other,
+        _ => false,
+    }
+}
+
+// Are they the same access, of those that an actor repeats while it waits?
+fn is_same_access(one: Access, other: Access) -> bool
+    ensures { IsTrue result → one ≡ other }
+{
+    match (one, other) {
+        (Access::Look, Access::Look) => true,
+        (Access::Seek(one), Access::Seek(other)) => one == other,
+        _ => false,
+    }
+}
+
+// Do they say nothing?
+fn are_silent(one: Label, other: Label) -> bool
+    ensures { IsTrue result → one ≡ other }
+{
+    matches!((one, other), (Label::Silent, Label::Silent))
+}
+
+// Are they the same event, of those that an actor repeats while it waits?
+fn is_same(one: &Event, other: &Event) -> bool
+    ensures { IsTrue result → one.now ≡ other.now }
+{
+    one.actor == other.actor
+        && one.found == other.found
+        && is_same_word(one.word, other.word)
+        && is_same_access(one.access, other.access)
+        && are_silent(one.label, other.label)
+}
+
+// The line of an event, where this is it.
+fn again<'a>(processors: u16, line: &'a KeptLine, event: &Event) -> Option<&'a [u8]>
+    ensures { IfSome result (λ text. text.now ≡ event_line processors event.now) }
+{
+    if line.processors == processors && is_same(&line.event, event) {
+        Some(line.text())
+    } else {
+        None
+    }
+}
