@@ -1,10 +1,10 @@
-use handler_ops::{Desk, Server};
+use handler_ops::{BoxedDesk, Server};
 
 /// What changes hands at an access.
 #[derive(Drop)]
 pub enum Cargo {
     /// A processor's image and job.
-    Desk(Desk),
+    Desk(BoxedDesk),
     /// The state of serving, which the BSP has.
     Chair(Server),
 }

@@ -13,7 +13,7 @@ use crate::cargo::Cargo;
 use crate::part::Part;
 use crate::processor::Processor;
 use cpu_table::Setup;
-use handler_ops::{Desk, Desks, Job, Server, run_job};
+use handler_ops::{BoxedDesk, Desks, Job, Server};
 use sync_words::{Hand, Row, Want};
 
 // How a processor gives and receives.
@@ -105,7 +105,7 @@ impl Processor {
             }
             Some(mut desk) => {
                 run_if_any(&self.identity.setup, &mut desk);
-                self.ran = desk.job;
+                self.ran = desk.get().job;
                 Some(Cargo::Desk(desk))
             }
         }
@@ -121,10 +121,10 @@ impl Processor {
         }
     }
 
-    fn receive_desk(&mut self, k: u16, desk: Desk)
+    fn receive_desk(&mut self, k: u16, desk: BoxedDesk)
         ensures { processor_in self.new ≡ desk_received (processor_in self.old) k desk }
     {
-        if desk.image.kind() == self.identity.setup.kind {
+        if desk.get().image.kind() == self.identity.setup.kind {
             put_if_any(&mut self.held.desks, k, desk);
         }
     }
@@ -152,7 +152,7 @@ fn hand_of(want: Want) -> Hand
 
 // Holds the desk of a processor; there is none beyond the last.
 #[tactic(auto, using(crate::proofs::DeskLemmas::put_past))]
-fn put_if_any(held: &mut Desks, k: u16, desk: Desk)
+fn put_if_any(held: &mut Desks, k: u16, desk: BoxedDesk)
     ensures { held.new ≡ slice_set held.old k (Some desk) }
 {
     if usize::from(k) < held.len() {
@@ -184,12 +184,12 @@ pub fn can_run(setup: &Setup, job: &Job) -> bool
 }
 
 // Runs the job on a desk, if it is still to be run.
-fn run_if_any(setup: &Setup, desk: &mut Desk)
+fn run_if_any(setup: &Setup, desk: &mut BoxedDesk)
     ensures { desk.new ≡ job_run (data_of setup.now) desk.old }
 {
-    if let Some(job) = desk.job {
+    if let Some(job) = desk.get().job {
         if can_run(setup, &job) {
-            let _answer = run_job(setup, desk);
+            let _answer = desk.run(setup);
         }
     }
 }

@@ -10,7 +10,7 @@ ghost use Rattle.cpu_program.specs.Processors.{want_at, want_for, want_of_sessio
 use crate::identity::Identity;
 use crate::part::Part;
 use cpu_regs::Regs;
-use handler_ops::{Desk, Desks, Held, Job, Need, Server};
+use handler_ops::{BoxedDesk, Desk, Desks, Held, Job, Need, Server};
 use save_state_map::Image;
 use smm_base::NoMemory;
 use std::alloc::Global;
@@ -131,11 +131,11 @@ pub fn held_at_first(
         image: *image,
         job: None,
     };
-    desks.put(me, desk);
+    desks.put(me, BoxedDesk::new(alloc, desk)?);
     Ok(Held { desks })
 }
 
-fn no_desks(alloc: Global, processors: u16) -> Result<Vec<Option<Desk>>, NoMemory>
+fn no_desks(alloc: Global, processors: u16) -> Result<Vec<Option<BoxedDesk>>, NoMemory>
     ensures { IfOk result (λ desks. desks.items ≡ replicate processors None) }
 {
     let mut desks = Vec::with_capacity(alloc, usize::from(processors))?;

@@ -57,7 +57,9 @@ fn save(held: &mut Desks, cpu: u16, registers: &Regs, cause: &Cause)
     ensures { held.new ≡ slice_set held.old cpu (option_map (desk_saved registers.now cause.now) (desk_of held.old cpu)) }
 {
     if let Some(mut desk) = held.take(cpu) {
-        enter(registers, cause, &mut desk.image);
+        let mut image = desk.get().image;
+        enter(registers, cause, &mut image);
+        desk.set_image(image);
         held.put(cpu, desk);
     }
 }

@@ -1,7 +1,7 @@
 use crate::starts::Actor;
 use crate::turns::turn;
 use cpu_program::Cargo;
-use handler_ops::{Desk, Job};
+use handler_ops::{BoxedDesk, Job};
 use platform_file::read_platform;
 use std::alloc::Global;
 use std::fmt;
@@ -463,8 +463,8 @@ fn lay_job(actor: &mut Option<Actor>) -> Option<()> {
     Some(())
 }
 
-fn lay_on(desk: &mut Desk) {
-    desk.job = Some(Job {
+fn lay_on(desk: &mut BoxedDesk) {
+    desk.give(Job {
         number: 7,
         procedure: 0,
         arg: 9,

@@ -5,7 +5,7 @@ use crate::turns::Others;
 use cpu_program::{Cargo, Program};
 use cpu_regs::Regs;
 use cpu_table::Setup;
-use handler_ops::{Desk, Server};
+use handler_ops::{BoxedDesk, Desk, Server};
 use save_state_map::Image;
 use smm_base::{MapKind, NoMemory, Policy};
 use std::alloc::Global;
@@ -91,7 +91,7 @@ fn things_of_others(alloc: Global, setup: &Setup, me: u16) -> Option<Vec<Option<
         let desk = if cpu == me {
             None
         } else {
-            Some(blank_desk(setup.kind)?)
+            Some(blank_desk(alloc, setup.kind)?)
         };
         things.push(desk).ok()?;
     }
@@ -99,9 +99,10 @@ fn things_of_others(alloc: Global, setup: &Setup, me: u16) -> Option<Vec<Option<
     Some(things)
 }
 
-fn blank_desk(kind: MapKind) -> Option<Cargo> {
+fn blank_desk(alloc: Global, kind: MapKind) -> Option<Cargo> {
     let image = blank_image(kind)?;
-    Some(Cargo::Desk(Desk { image, job: None }))
+    let desk = BoxedDesk::new(alloc, Desk { image, job: None }).ok()?;
+    Some(Cargo::Desk(desk))
 }
 
 fn free_chair(alloc: Global, setup: &Setup) -> Result<Option<Cargo>, NoMemory> {

@@ -8,7 +8,7 @@ ghost use Rattle.cpu_program.specs.Programs.{want_of};
 
 use cpu_program::{Cargo, Program};
 use cpu_table::Setup;
-use handler_ops::{Desk, Job, run_job};
+use handler_ops::{BoxedDesk, Job};
 use sync_words::{Access, Applied, Event, Hand, LOCKED, Want, WordId, apply};
 
 /// What the others hold: the desks by their processors' numbers, and the chair by the number of processors.
@@ -126,10 +126,10 @@ fn can_run(setup: &Setup, job: &Job) -> bool
     job.done.is_none() && usize::from(job.procedure) < setup.procedures.len()
 }
 
-fn run_if_any(setup: &Setup, desk: &mut Desk) {
-    if let Some(job) = desk.job {
+fn run_if_any(setup: &Setup, desk: &mut BoxedDesk) {
+    if let Some(job) = desk.get().job {
         if can_run(setup, &job) {
-            let _answer = run_job(setup, desk);
+            let _answer = desk.run(setup);
         }
     }
 }

@@ -4,15 +4,15 @@ ghost use Rattle.handler_ops.specs.Answering.{without_job, taken_off, written_on
 ghost use Rattle.handler_ops.specs.Course.{desk_of, image_in, is_held, shown_value, write_of};
 ghost use Rattle.handler_ops.specs.Told.{with_job};
 
-use crate::desk::{Desk, Job};
-use crate::procedure::{read_number, write_number};
+use crate::desk::{BoxedDesk, Desk, Job};
+use crate::procedure::read_number;
 use smm_base::Status;
 use std::marker::Model;
 
 /// The desks that the boot processor holds: an item for each processor by rising number, which contracts see as the list.
 #[derive(Drop)]
 pub struct Desks {
-    desks: Vec<Option<Desk>>,
+    desks: Vec<Option<BoxedDesk>>,
 }
 
 impl Model for Desks {
@@ -25,7 +25,7 @@ impl Model for Desks {
 }
 
 impl Desks {
-    pub fn new(desks: Vec<Option<Desk>>) -> Self
+    pub fn new(desks: Vec<Option<BoxedDesk>>) -> Self
         ensures { result ≡ desks.items }
     {
         Desks { desks }
@@ -53,11 +53,12 @@ impl Desks {
     pub fn get(&self, c: u16) -> Option<&Desk>
         ensures { option_copied result ≡ desk_of self.now c }
     {
-        self.desks.get(usize::from(c))?.as_ref()
+        let desk = self.desks.get(usize::from(c))?.as_ref()?;
+        Some(desk.get())
     }
 
     /// Gives up the desk of a processor, if it is held.
-    pub fn take(&mut self, c: u16) -> Option<Desk>
+    pub fn take(&mut self, c: u16) -> Option<BoxedDesk>
         ensures taken { result ≡ desk_of self.old c }
         ensures left { self.new ≡ slice_set self.old c None }
     {
@@ -96,7 +97,7 @@ impl Desks {
         ensures status { result.1 ≡ (read_answer (image_in (desk_of self.now c)) true id reg (replicate width 0)).status }
     {
         match self.desks.get(usize::from(c)) {
-            Some(Some(desk)) => read_number(&desk.image, true, id, reg, usize::from(width)),
+            Some(Some(desk)) => read_number(&desk.get().image, true, id, reg, usize::from(width)),
             _ => (0, Status::InvalidParameter),
         }
     }
@@ -115,7 +116,7 @@ impl Desks {
     }
 
     /// Holds the desk of a processor.
-    pub fn put(&mut self, c: u16, desk: Desk)
+    pub fn put(&mut self, c: u16, desk: BoxedDesk)
         requires { c < length self.old }
         ensures { self.new ≡ slice_set self.old c (Some desk) }
     {
@@ -123,32 +124,32 @@ impl Desks {
     }
 }
 
-fn give_to(item: &mut Option<Desk>, job: Job)
+fn give_to(item: &mut Option<BoxedDesk>, job: Job)
     requires { job.done ≡ None }
     ensures { item.new ≡ option_map (with_job job.number job.procedure job.arg) item.old }
 {
     if let Some(desk) = item {
-        desk.job = Some(job);
+        desk.give(job);
     }
 }
 
-fn take_from(item: &mut Option<Desk>) -> Option<Job>
+fn take_from(item: &mut Option<BoxedDesk>) -> Option<Job>
     ensures job { result ≡ job_on item.old }
     ensures desk { item.new ≡ option_map without_job item.old }
 {
     match item {
-        Some(desk) => desk.job.take(),
+        Some(desk) => desk.take_job(),
         None => None,
     }
 }
 
-fn write_to(item: &mut Option<Desk>, reg: u32, width: u8, value: u64) -> Status
+fn write_to(item: &mut Option<BoxedDesk>, reg: u32, width: u8, value: u64) -> Status
     requires { IsSome item.old }
     ensures status { result ≡ (write_of true (image_in item.old) reg width value).status }
     ensures desk { item.new ≡ option_map (written_on reg width value) item.old }
 {
     match item {
-        Some(desk) => write_number(&mut desk.image, true, reg, usize::from(width), value),
+        Some(desk) => desk.write(reg, width, value),
         None => Status::InvalidParameter,
     }
 }

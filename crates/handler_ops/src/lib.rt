@@ -13,7 +13,7 @@ mod row;
 mod server;
 mod telling;
 
-pub use desk::{Desk, Job};
+pub use desk::{BoxedDesk, Desk, Job};
 pub use held::{Desks, Held};
 pub use laws::courses;
 pub use need::Need;

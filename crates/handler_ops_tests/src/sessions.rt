@@ -1,6 +1,6 @@
 use crate::turns::{Others, turn};
 use cpu_table::Setup;
-use handler_ops::{Desk, Desks, Held, Need, Server};
+use handler_ops::{BoxedDesk, Desk, Desks, Held, Need, Server};
 use platform_file::read_platform;
 use save_state_map::{Image, MapKind};
 use smm_base::NoMemory;
@@ -534,9 +534,9 @@ fn platform_text(alloc: Global, name: &str, units: u32) -> Result<String, fmt::E
     Ok(text)
 }
 
-fn blank_desk() -> Option<Desk> {
+fn blank_desk(alloc: Global) -> Option<BoxedDesk> {
     let image = Image::new(MapKind::Intel64, &ZEROS).ok()?;
-    Some(Desk { image, job: None })
+    BoxedDesk::new(alloc, Desk { image, job: None }).ok()
 }
 
 // The desk of a processor, or those of the others.
@@ -544,7 +544,7 @@ fn desks(alloc: Global, processors: u16, me: u16, own: bool) -> Result<Desks, No
     let mut desks = Vec::with_capacity(alloc, usize::from(processors))?;
     for cpu in 0..processors {
         let desk = if (cpu == me) == own {
-            blank_desk()
+            blank_desk(alloc)
         } else {
             None
         };

@@ -4,7 +4,7 @@ ghost use Rattle.handler_ops.specs.Answering.{HasTold, is_at_hand};
 ghost use Rattle.handler_ops_tests.specs.Runs.{can_run};
 
 use cpu_table::Setup;
-use handler_ops::{Desk, Desks, Held, Job, Need, Server, run_job};
+use handler_ops::{BoxedDesk, Desks, Held, Job, Need, Server};
 use sync_words::Label;
 
 /// The other processors, with their desks.
@@ -71,7 +71,7 @@ fn take_run(cpu: u16, others: &mut Others, held: &mut Desks) {
     }
 }
 
-fn put_if_any(cpu: u16, desk: Desk, to: &mut Desks) {
+fn put_if_any(cpu: u16, desk: BoxedDesk, to: &mut Desks) {
     if usize::from(cpu) < to.len() {
         to.put(cpu, desk);
     }
@@ -84,10 +84,10 @@ fn can_run(setup: &Setup, job: &Job) -> bool
     job.done.is_none() && usize::from(job.procedure) < setup.procedures.len()
 }
 
-fn run_if_any(setup: &Setup, desk: &mut Desk) {
-    if let Some(job) = desk.job {
+fn run_if_any(setup: &Setup, desk: &mut BoxedDesk) {
+    if let Some(job) = desk.get().job {
         if can_run(setup, &job) {
-            let _answer = run_job(setup, desk);
+            let _answer = desk.run(setup);
         }
     }
 }
