@@ -14,7 +14,7 @@ use Rattle.chipset.specs.Chipsets.{first_chipset}
 use Rattle.cpu_program.specs.Programs.{is_off, want_of}
 use Rattle.rendezvous_core.specs.declared.stepped.Stepped.{Stepped}
 use Rattle.rendezvous_core.specs.declared.stepped.Stepped.TheVariants as stepped
-use Rattle.ending_laws.specs.Endings.{MakesEvent, CanGoOn, IsNeverStuck}
+use Rattle.rendezvous_core.specs.Endings.{MakesEvent, CanGoOn, IsNeverStuck}
 use Rattle.rendezvous_core.specs.Starts.{AreImagesOf}
 use Rattle.rendezvous_core.specs.Worlds.{World, step, step_of, turn, start, first_actors, world_after, is_complete, MakesNoEvent}
 use Rattle.rendezvous_machine.specs.Machines.{Machine, beginning, no_image}

@@ -3,7 +3,7 @@ ghost use Rattle.save_state_map.specs.Images.{ImageContents};
 ghost use Rattle.cpu_regs.specs.Registers.{Registers};
 ghost use Rattle.cpu_table.specs.declared.setup.Setup.{Setup};
 ghost use Rattle.cpu_table.specs.Data.{data_of};
-ghost use Rattle.ending_laws.specs.Endings.{CanGoOn};
+ghost use Rattle.rendezvous_core.specs.Endings.{CanGoOn};
 ghost use Rattle.rendezvous_core.specs.Starts.{AreImagesOf};
 ghost use Rattle.rendezvous_core.specs.Worlds.{replay_world, is_complete};
 

@@ -11,7 +11,8 @@ use Rattle.cpu_table.specs.Data.{SetupData, data_of}
 use Rattle.sync_words.specs.declared.event.Event.{Event}
 use Rattle.rendezvous_core.specs.Starts.{AreImagesOf}
 use Rattle.rendezvous_core.specs.Worlds.{World, replay_events, replay_world, is_complete, last_image}
-use Rattle.rendezvous_finish.specs.Finishes.{round_of, rounds, actors_of, AreAtMost, IsPrefix}
+use Rattle.rendezvous_core.specs.Finishes.{round_of, rounds, actors_of, IsPrefix}
+use Rattle.rendezvous_finish.specs.Finishes.{AreAtMost}
 use Rattle.replay_report.specs.declared.inputs.Inputs.{Inputs}
 use Rattle.replay_report.specs.Plan.{Plan, plan_of, IsPlayable}
 use Rattle.replay_report.specs.Replays.{images_by, registers_of, world_of, replayed}

@@ -2,7 +2,7 @@
 use Rattle.std.specs.Prelude.{ℕ, ◌≡◌, ◌++◌, length, take, true}
 use Rattle.cpu_table.specs.Data.{SetupData}
 use Rattle.cpu_table.specs.Ranges.{events_at_most}
-use Rattle.rendezvous_finish.specs.Finishes.{rounds, actors_of}
+use Rattle.rendezvous_core.specs.Finishes.{rounds, actors_of}
 use Rattle.replay_report.specs.Plan.{Plan, plan, IsPlayable}
 use Rattle.replay_report.specs.Replays.{replayed}
 

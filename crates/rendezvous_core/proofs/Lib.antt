@@ -4,3 +4,7 @@ pub mod StartLemmas
 pub mod NumberLemmas
 pub mod ActorLemmas
 pub mod PlatformLemmas
+pub mod Steps
+pub mod Asleep
+pub mod Rounds
+pub mod Own

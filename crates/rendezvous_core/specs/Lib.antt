@@ -9,3 +9,6 @@ pub mod StartsInside
 pub mod Turns
 pub mod WorldInside
 pub mod Platforms
+pub mod Endings
+pub mod Finishes
+pub mod Asleep

@@ -2,8 +2,10 @@
 // a schedule.
 #![tactic(auto)]
 
+mod awake;
 mod beginning;
 mod error;
+mod finishing;
 mod laws;
 mod lying;
 mod lying_on_kind;

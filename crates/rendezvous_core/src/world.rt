@@ -1,11 +1,14 @@
-ghost use Rattle.std.specs.Prelude.{◌≡◌, ◌<◌, ◌≤◌, ◌++◌, [], length, IfOk, IfErr, OnOk, None, Some};
+ghost use Rattle.std.specs.Prelude.{◌≡◌, ◌<◌, ◌≤◌, ◌++◌, [], All, length, IfOk, IfErr, OnOk, None, Some, true};
 ghost use Rattle.cpu_table.specs.Data.{data_of};
+ghost use Rattle.rendezvous_core.specs.Endings.{IsNeverStuck};
+ghost use Rattle.rendezvous_core.specs.Finishes.{rounds, played_on, HasRoomForAll, IsReplayOfItsActors};
 ghost use Rattle.rendezvous_core.specs.Platforms.{HasFittingImage};
 ghost use Rattle.rendezvous_core.specs.Starts.{AreImagesOf, first_registers, start_refusal, IsRefusedBy};
 ghost use Rattle.rendezvous_core.specs.Worlds.{start, step, with_event, is_complete, last_image, MakesNoEvent};
 
 use crate::beginning::first_programs;
 use crate::error::{WorldError, not_relocated};
+use crate::finishing::{finish, play};
 use crate::lying::Lying;
 use crate::starting::{start_fault, start_registers};
 use crate::stepped::Stepped;
@@ -143,5 +146,33 @@ impl World {
         ensures { result ≡ is_complete self.now.world }
     {
         self.programs.iter().all(|program| program.is_off())
+    }
+
+    /// The steps of a schedule, where nothing is ever stuck from here on and there is room for the events of every schedule.
+    pub fn play(&mut self, schedule: &[u16])
+        requires known { All (λ actor. actor ≤ self.old.processors) schedule.now }
+        requires goes_on { IsNeverStuck self.old.world }
+        requires has_room { HasRoomForAll self.old }
+        ensures { self.new ≡ played_on self.old schedule.now }
+    {
+        play(self, schedule);
+    }
+
+    /// Steps all actors one after the other, the processors by number and then the chipset, round after round, until every
+    /// one is off. An actor that waits isn't asked again before a word may have changed. It takes no memory.
+    ///
+    /// There is room for the events of every schedule, and nothing is ever stuck from here on: so it is wherever a schedule
+    /// leads on a platform, by a law above this crate.
+    pub fn finish(&mut self)
+        requires few { self.old.processors ≤ 64 }
+        requires goes_on { IsNeverStuck self.old.world }
+        requires has_room { HasRoomForAll self.old }
+        ensures complete { is_complete self.new.world ≡ true }
+        // It went on by rounds: as many as there is room for events, since where all are off a round changes nothing.
+        ensures played { self.new ≡ played_on self.old (rounds self.old.processors self.old.room) }
+        ensures replayed { IsReplayOfItsActors self.old self.new }
+    {
+        let processors = self.processors;
+        finish(self, processors);
     }
 }

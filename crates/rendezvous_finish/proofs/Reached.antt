@@ -4,14 +4,15 @@ use Rattle.save_state_map.specs.Images.{ImageContents}
 use Rattle.cpu_regs.specs.Registers.{Registers}
 use Rattle.cpu_table.specs.Data.{SetupData, data_of}
 use Rattle.cpu_table.specs.declared.setup.Setup.{Setup}
-use Rattle.ending_laws.specs.Endings.{IsNeverStuck}
+use Rattle.rendezvous_core.specs.Endings.{IsNeverStuck}
 use Rattle.ending_laws.proofs.NeverStuck.{setup_never_stuck}
 use Rattle.rendezvous_core.specs.Starts.{AreImagesOf}
 use Rattle.rendezvous_core.specs.Worlds.{World, Replay, first_actors, start, world_after, events_from, replay_world, is_complete}
 use Rattle.rendezvous_core.proofs.Scheduling.{events_append, world_append}
-use Rattle.rendezvous_finish.specs.Finishes.{rounds, AreAtMost, IsReached}
-use Rattle.rendezvous_finish.proofs.Rounds.{after_actors, rounds_end}
-use Rattle.rendezvous_finish.proofs.Steps.{still_goes_on}
+use Rattle.rendezvous_core.specs.Finishes.{rounds}
+use Rattle.rendezvous_finish.specs.Finishes.{AreAtMost, IsReached}
+use Rattle.rendezvous_core.proofs.Rounds.{after_actors, rounds_end}
+use Rattle.rendezvous_core.proofs.Steps.{still_goes_on}
 
 -- an actor for each processor, and the chipset
 first_count : (d : SetupData) (me : ℕ) (registers : List Registers) (images : List ImageContents) → length registers ≡ length images → length (first_actors d me registers images) ≡ length registers + 1

@@ -9,8 +9,9 @@ use Rattle.cpu_table.specs.Data.{SetupData, data_of}
 use Rattle.cpu_table.specs.declared.setup.Setup.{Setup}
 use Rattle.rendezvous_core.specs.Starts.{AreImagesOf, first_registers, first_registers_of}
 use Rattle.rendezvous_core.specs.Worlds.{Replay, start, replay_world, replay_events}
-use Rattle.rendezvous_finish.specs.Finishes.{rounds, actors_of, played_on, AreAtMost, HasRoomForAll, IsPrefix, IsReached, IsReplayOf}
-use Rattle.rendezvous_finish.proofs.Own.{replay_on, replay_own, replay_begins}
+use Rattle.rendezvous_core.specs.Finishes.{rounds, actors_of, played_on, HasRoomForAll, IsPrefix, IsReplayOf}
+use Rattle.rendezvous_finish.specs.Finishes.{AreAtMost, IsReached}
+use Rattle.rendezvous_core.proofs.Own.{replay_on, replay_own, replay_begins}
 
 length-enumerate : (i : ℕ) (images : List ImageContents) → length (enumerate_from i images) ≡ length images
 length-enumerate i [] = refl

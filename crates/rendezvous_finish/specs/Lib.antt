@@ -1,2 +1,1 @@
 pub mod Finishes
-pub mod Asleep

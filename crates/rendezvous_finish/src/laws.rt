@@ -5,7 +5,8 @@ ghost use Rattle.cpu_table.specs.declared.setup.Setup.{Setup};
 ghost use Rattle.cpu_table.specs.Data.{SetupData, data_of};
 ghost use Rattle.rendezvous_core.specs.Starts.{AreImagesOf};
 ghost use Rattle.rendezvous_core.specs.Worlds.{replay_events, replay_world, is_complete};
-ghost use Rattle.rendezvous_finish.specs.Finishes.{rounds, actors_of, AreAtMost, IsPrefix};
+ghost use Rattle.rendezvous_core.specs.Finishes.{rounds, actors_of, IsPrefix};
+ghost use Rattle.rendezvous_finish.specs.Finishes.{AreAtMost};
 
 /// What holds of replays that go on until all are off. It does nothing when it runs.
 pub fn finish_laws()

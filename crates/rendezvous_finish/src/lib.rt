@@ -1,11 +1,8 @@
-// The rest of a replay: all actors step, round after round, until every one of them is off.
+// Every schedule can be finished: nothing is stuck where it leads, so that rounds of all actors come to an end.
 #![tactic(auto)]
 
-mod awake;
-mod finishing;
 mod laws;
 mod to_end;
 
-pub use finishing::finish;
 pub use laws::finish_laws;
 pub use to_end::replay_to_end;

@@ -2,9 +2,9 @@ ghost use Rattle.std.specs.Prelude.{◌≡◌, ◌≤◌, ◌++◌, All, IfOk, I
 ghost use Rattle.cpu_table.specs.Data.{data_of};
 ghost use Rattle.rendezvous_core.specs.Starts.{AreImagesOf, first_registers, start_refusal, IsRefusedBy};
 ghost use Rattle.rendezvous_core.specs.Worlds.{is_complete, replay_events, replay_world};
-ghost use Rattle.rendezvous_finish.specs.Finishes.{rounds, actors_of, played_on, AreAtMost, HasRoomForAll, IsPrefix, IsReached, IsReplayOf};
+ghost use Rattle.rendezvous_core.specs.Finishes.{rounds, actors_of, played_on, HasRoomForAll, IsPrefix, IsReplayOf};
+ghost use Rattle.rendezvous_finish.specs.Finishes.{AreAtMost, IsReached};
 
-use crate::finishing::{finish, play};
 use cpu_table::Setup;
 use rendezvous_core::{World, WorldError};
 use save_state_map::Image;
@@ -18,8 +18,8 @@ fn carried_on(mut world: World, setup: &Setup, schedule: &Vec<u16>) -> World
     ensures complete { is_complete result.world ≡ true }
     ensures played { result ≡ played_on (played_on world schedule.now.items) (rounds setup.now.processors world.room) }
 {
-    play(&mut world, schedule.as_slice());
-    finish(&mut world, setup);
+    world.play(schedule.as_slice());
+    world.finish();
     world
 }
 

@@ -1,5 +1,5 @@
 use Rattle.rendezvous_core.specs.Worlds.{start}
-use Rattle.rendezvous_finish.proofs.Own.{own, replay_begins}
+use Rattle.rendezvous_core.proofs.Own.{own, replay_begins}
 use Rattle.rendezvous_finish.proofs.Reached.{replay_ends}
 use Rattle.rendezvous_finish.proofs.laws.finish_laws.Goals as goal
 

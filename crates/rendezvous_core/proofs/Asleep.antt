@@ -21,9 +21,9 @@ use Rattle.rendezvous_core.specs.declared.stepped.Stepped.{Stepped}
 use Rattle.rendezvous_core.specs.declared.stepped.Stepped.TheVariants as stepped
 use Rattle.rendezvous_core.specs.Worlds.{World, Words, Lying, Replay, Turn, Moves, Waits, Rests, read, lying_on, gives, takes, changes, accesses, turn_wanting, turn, turned, step_of, step, MakesNoEvent}
 use Rattle.rendezvous_core.proofs.Scheduling.{step_stays}
-use Rattle.rendezvous_finish.specs.Asleep.{AreAsleep, woken, noted}
-use Rattle.rendezvous_finish.specs.Finishes.{played_on}
-use Rattle.rendezvous_finish.proofs.Steps.{same_replay, step_adds_none}
+use Rattle.rendezvous_core.specs.Asleep.{AreAsleep, woken, noted}
+use Rattle.rendezvous_core.specs.Finishes.{played_on}
+use Rattle.rendezvous_core.proofs.Steps.{same_replay, step_adds_none}
 
 -- WHO NEED NOT BE ASKED
 

@@ -1,12 +1,11 @@
 ghost use Rattle.std.specs.Prelude.{◌≡◌, ◌<◌, ◌≤◌, ◌+◌, [], ◌∷◌, All, length, slice_index_or, true};
-ghost use Rattle.ending_laws.specs.Endings.{IsNeverStuck};
+ghost use Rattle.rendezvous_core.specs.Endings.{IsNeverStuck};
 ghost use Rattle.rendezvous_core.specs.Worlds.{is_complete};
-ghost use Rattle.rendezvous_finish.specs.Asleep.{AreAsleep};
-ghost use Rattle.rendezvous_finish.specs.Finishes.{round_of, rounds, played_on, HasRoomForAll, IsReached, IsReplayOfItsActors};
+ghost use Rattle.rendezvous_core.specs.Asleep.{AreAsleep};
+ghost use Rattle.rendezvous_core.specs.Finishes.{round_of, rounds, played_on, HasRoomForAll, IsReplayOfItsActors};
 
 use crate::awake::{is_awake, note};
-use cpu_table::Setup;
-use rendezvous_core::World;
+use crate::world::World;
 
 // The step of an actor. Where all are off there may be no room for an event, and none is made.
 #[tactic(auto, using(crate::proofs::Steps::room_for_event, crate::proofs::Steps::step_plays, crate::proofs::Steps::off_plays))]
@@ -21,8 +20,8 @@ fn turn(world: &mut World, actor: u16)
     }
 }
 
-/// The steps of a schedule, from a world from which nothing is ever stuck and with room for every schedule.
-pub(crate) fn play(world: &mut World, schedule: &[u16])
+// The steps of a schedule.
+pub fn play(world: &mut World, schedule: &[u16])
     requires known { All (λ actor. actor ≤ world.old.processors) schedule.now }
     requires goes_on { IsNeverStuck world.old.world }
     requires has_room { HasRoomForAll world.old }
@@ -87,19 +86,19 @@ fn round(world: &mut World, processors: u16, awake: &mut [bool])
     }
 }
 
-/// Steps all actors one after the other, the processors by number and then the chipset, round after round, until every one
-/// is off. An actor that waits isn't asked again before a word may have changed. It takes no memory.
-pub fn finish(world: &mut World, setup: &Setup)
-    // It is the replay of some schedule on this platform, and has room for the events of every one.
-    requires reached { IsReached setup.now world.old }
+// Round after round until every actor is off.
+pub fn finish(world: &mut World, processors: u16)
+    requires processors { processors ≡ world.old.processors }
+    requires few { processors ≤ 64 }
+    requires actors { length world.old.world.actors ≡ processors + 1 }
+    requires goes_on { IsNeverStuck world.old.world }
     requires has_room { HasRoomForAll world.old }
     ensures complete { is_complete world.new.world ≡ true }
-    // It went on by rounds: as many as there is room for events, since where all are off a round changes nothing.
-    ensures played { world.new ≡ played_on world.old (rounds setup.now.processors world.old.room) }
+    ensures played { world.new ≡ played_on world.old (rounds processors world.old.room) }
     ensures replayed { IsReplayOfItsActors world.old world.new }
 {
     let mut awake = [true; 65];
     while !world.complete() {
-        round(world, setup.processors, &mut awake);
+        round(world, processors, &mut awake);
     }
 }

@@ -1,5 +1,5 @@
 use Rattle.std.proofs.Common.{◌≡◌, ◌<◌, ℕ, true, length, get_or}
-use Rattle.rendezvous_finish.proofs.awake.wake.Given as goal
+use Rattle.rendezvous_core.proofs.awake.wake.Given as goal
 
 abbrev pub invariant-loop-place : goal.invariant-loop-place
 invariant-loop-place l = record {

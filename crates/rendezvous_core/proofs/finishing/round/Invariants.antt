@@ -1,8 +1,8 @@
 use Rattle.std.proofs.Common.{◌≡◌, length}
 use Rattle.std.specs.List.{range_with_len}
-use Rattle.rendezvous_finish.specs.Asleep.{AreAsleep}
-use Rattle.rendezvous_finish.specs.Finishes.{played_on}
-use Rattle.rendezvous_finish.proofs.finishing.round.Given as goal
+use Rattle.rendezvous_core.specs.Asleep.{AreAsleep}
+use Rattle.rendezvous_core.specs.Finishes.{played_on}
+use Rattle.rendezvous_core.proofs.finishing.round.Given as goal
 
 abbrev pub invariant-loop-actor : goal.invariant-loop-actor
 invariant-loop-actor l = record {

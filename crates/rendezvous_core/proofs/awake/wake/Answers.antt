@@ -1,7 +1,7 @@
 -- All flags are set.
 use Rattle.std.proofs.Common.{◌∙◌, true, length, length-set, arith}
-use Rattle.rendezvous_finish.proofs.Asleep.{set_more, all_set}
-use Rattle.rendezvous_finish.proofs.awake.wake.Goals as goal
+use Rattle.rendezvous_core.proofs.Asleep.{set_more, all_set}
+use Rattle.rendezvous_core.proofs.awake.wake.Goals as goal
 
 pub loop-place-preserved : goal.loop-place-preserved
 loop-place-preserved c =

@@ -22,7 +22,7 @@ use Rattle.rendezvous_core.specs.declared.stepped.Stepped.{Stepped}
 use Rattle.rendezvous_core.specs.declared.stepped.Stepped.TheVariants as stepped
 use Rattle.rendezvous_core.specs.Worlds.{World, Words, Lying, Replay, Turn, Moves, Waits, Rests, read, lying_on, gives, takes, changes, accesses, turn_wanting, turn, turned, step_of, step, with_event, events_from, world_after, start, replay_events, MakesNoEvent}
 use Rattle.rendezvous_core.proofs.Scheduling.{events_append, world_append, step_stays}
-use Rattle.rendezvous_finish.specs.Finishes.{actors_of, played_on, IsPrefix, IsReplayOf, IsReplayOfItsActors}
+use Rattle.rendezvous_core.specs.Finishes.{actors_of, played_on, IsPrefix, IsReplayOf, IsReplayOfItsActors}
 
 -- WHO MADE AN EVENT
 

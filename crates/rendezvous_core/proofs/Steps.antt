@@ -13,12 +13,12 @@ use Rattle.cpu_program.specs.declared.part.Part.{Part}
 use Rattle.cpu_program.specs.declared.part.Part.TheVariants.{Between, Entering, Gathering, Closing, Serving, Exiting, Reporting, Off}
 use Rattle.cpu_program.specs.Processors.{want_in, is_off_part}
 use Rattle.cpu_program.specs.Programs.{want_of, is_off}
-use Rattle.ending_laws.specs.Endings.{MakesEvent, CanGoOn, IsNeverStuck}
+use Rattle.rendezvous_core.specs.Endings.{MakesEvent, CanGoOn, IsNeverStuck}
 use Rattle.rendezvous_core.specs.declared.stepped.Stepped.{Stepped}
 use Rattle.rendezvous_core.specs.declared.stepped.Stepped.TheVariants as stepped
 use Rattle.rendezvous_core.specs.Worlds.{World, Replay, turn_wanting, turned, step_of, step, with_event, events_from, world_after, is_complete, MakesNoEvent}
 use Rattle.rendezvous_core.proofs.Scheduling.{events_append, world_append, step_stays}
-use Rattle.rendezvous_finish.specs.Finishes.{played_on, HasRoomForAll}
+use Rattle.rendezvous_core.specs.Finishes.{played_on, HasRoomForAll}
 
 -- PLAYING ON
 

@@ -1,11 +1,11 @@
 use Rattle.std.proofs.Common.{◌≡◌, ◌-◌, length}
-use Rattle.rendezvous_finish.specs.Asleep.{AreAsleep}
-use Rattle.rendezvous_finish.proofs.Rounds.{IsOnItsWay}
-use Rattle.rendezvous_finish.proofs.finishing.finish.Given as goal
+use Rattle.rendezvous_core.specs.Asleep.{AreAsleep}
+use Rattle.rendezvous_core.proofs.Rounds.{IsOnItsWay}
+use Rattle.rendezvous_core.proofs.finishing.finish.Given as goal
 
 abbrev pub invariant-loop-awake : goal.invariant-loop-awake
 invariant-loop-awake l = record {
-  on_its_way : IsOnItsWay l.setup.processors l.fn.world l.world;
+  on_its_way : IsOnItsWay l.processors l.fn.world l.world;
   asleep : AreAsleep l.awake l.world.world;
   flags : length l.awake ≡ 65;
 }

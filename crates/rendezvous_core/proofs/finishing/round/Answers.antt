@@ -1,9 +1,9 @@
 -- One actor of the round after the other.
 use Rattle.std.proofs.Common.{[], ◌∷◌, ap, ◌∙◌}
-use Rattle.rendezvous_finish.specs.Finishes.{played_on}
-use Rattle.rendezvous_finish.proofs.Steps.{further}
-use Rattle.rendezvous_finish.proofs.Rounds.{round_more}
-use Rattle.rendezvous_finish.proofs.finishing.round.Goals as goal
+use Rattle.rendezvous_core.specs.Finishes.{played_on}
+use Rattle.rendezvous_core.proofs.Steps.{further}
+use Rattle.rendezvous_core.proofs.Rounds.{round_more}
+use Rattle.rendezvous_core.proofs.finishing.round.Goals as goal
 
 pub turn_of-requires-clause-goes_on : goal.turn_of-requires-clause-goes_on
 turn_of-requires-clause-goes_on c = (further c.args.world.now c.loop-actor.world _ c.loop-actor.invariant.played c.requires.goes_on c.requires.has_room).goes_on

@@ -1,7 +1,7 @@
 ghost use Rattle.std.specs.Prelude.{◌≡◌, ◌<◌, length, replicate, slice_index_or, true};
-ghost use Rattle.rendezvous_finish.specs.Asleep.{woken, noted};
+ghost use Rattle.rendezvous_core.specs.Asleep.{woken, noted};
 
-use rendezvous_core::Stepped;
+use crate::stepped::Stepped;
 use sync_words::Access;
 
 // All actors may make an event again, since a word has changed.
@@ -24,7 +24,7 @@ fn wake_by(access: Access, awake: &mut [bool])
 }
 
 /// What is known of the actors after a step of one of them.
-pub(crate) fn note(stepped: Stepped, actor: u16, awake: &mut [bool])
+pub fn note(stepped: Stepped, actor: u16, awake: &mut [bool])
     requires { actor < length awake.old }
     ensures { awake.new ≡ noted stepped actor awake.old }
 {
@@ -35,7 +35,7 @@ pub(crate) fn note(stepped: Stepped, actor: u16, awake: &mut [bool])
 }
 
 /// May this actor make an event, as far as is known?
-pub(crate) fn is_awake(awake: &[bool], actor: u16) -> bool
+pub fn is_awake(awake: &[bool], actor: u16) -> bool
     ensures { result ≡ slice_index_or awake.now actor true }
 {
     awake.get(usize::from(actor)).copied().unwrap_or(true)

@@ -1,7 +1,7 @@
 -- One actor of the schedule after the other.
 use Rattle.std.proofs.Common.{◌≤◌, length, arith}
-use Rattle.rendezvous_finish.proofs.Steps.{further, schedule_more, schedule_end}
-use Rattle.rendezvous_finish.proofs.finishing.play.Goals as goal
+use Rattle.rendezvous_core.proofs.Steps.{further, schedule_more, schedule_end}
+use Rattle.rendezvous_core.proofs.finishing.play.Goals as goal
 
 pub turn-requires-clause-goes_on : goal.turn-requires-clause-goes_on
 turn-requires-clause-goes_on c = (further c.args.world.now c.loop-actor.world _ c.loop-actor.invariant c.requires.goes_on c.requires.has_room).goes_on

@@ -4,13 +4,13 @@ use Rattle.std.specs.Prelude.{All}
 use Rattle.std.specs.List.{range_with_len}
 use Rattle.std.proofs.lemmas.List.Elements.{All-append, All-cons, All-nil}
 use Rattle.sync_words.specs.declared.event.Event.{Event}
-use Rattle.ending_laws.specs.Endings.{MakesEvent, CanGoOn, IsNeverStuck}
+use Rattle.rendezvous_core.specs.Endings.{MakesEvent, CanGoOn, IsNeverStuck}
 use Rattle.rendezvous_core.specs.declared.stepped.Stepped.{Stepped}
 use Rattle.rendezvous_core.specs.declared.stepped.Stepped.TheVariants as stepped
 use Rattle.rendezvous_core.specs.Worlds.{World, Replay, step, with_event, events_from, world_after, is_complete, MakesNoEvent}
 use Rattle.rendezvous_core.proofs.Scheduling.{events_append, world_append, step_stays, step_actors}
-use Rattle.rendezvous_finish.specs.Finishes.{round_of, rounds, played_on, HasRoomForAll}
-use Rattle.rendezvous_finish.proofs.Steps.{played_more, still_goes_on, still_has_room, replay_stays, complete_stays, room_for_event}
+use Rattle.rendezvous_core.specs.Finishes.{round_of, rounds, played_on, HasRoomForAll}
+use Rattle.rendezvous_core.proofs.Steps.{played_more, still_goes_on, still_has_room, replay_stays, complete_stays, room_for_event}
 
 -- A RANGE OF ACTORS
 
