@@ -25,7 +25,7 @@ use sync_words::Label;
 /// next access, and from the number that the access found the label of its event.
 #[derive(Drop)]
 pub struct Server {
-    progress: Progress,
+    progress: Box<Progress>,
     told: Row,
 }
 
@@ -37,9 +37,9 @@ impl Model for Server {
     ghost use Rattle.handler_ops.specs.Sessions.{session_in};
     ghost use Rattle.serving_place.specs.Progresses.{IsGoing};
 
-    ghost view = { λ s. session_in s.progress s.told };
+    ghost view = { λ s. session_in s.progress.value s.told };
 
-    ghost invariant = { λ s. IsGoing s.progress };
+    ghost invariant = { λ s. IsGoing s.progress.value };
 }
 
 impl Server {
@@ -55,17 +55,18 @@ impl Server {
         let walks = Vec::with_capacity(alloc, MOST_LEVELS)?;
         let setup = setup.copy()?;
         let units = setup.ops;
+        let progress = Progress {
+            setup,
+            me: 0,
+            wave: 0,
+            entry: 0,
+            walks,
+            pending: Pending::Nothing,
+            marked: false,
+            state: State::new(registrations, pool, seats, tokens, units),
+        };
         Ok(Server {
-            progress: Progress {
-                setup,
-                me: 0,
-                wave: 0,
-                entry: 0,
-                walks,
-                pending: Pending::Nothing,
-                marked: false,
-                state: State::new(registrations, pool, seats, tokens, units),
-            },
+            progress: Box::new(alloc, progress)?,
             told: Row::Finished,
         })
     }
@@ -82,7 +83,8 @@ impl Server {
         self.progress.walks.clear();
         self.progress.pending = Pending::First(wave);
         self.progress.marked = false;
-        self.progress.state.begin(self.progress.setup.ops);
+        let units = self.progress.setup.ops;
+        self.progress.state.begin(units);
         self.told = Row::Finished;
     }
 

@@ -10,11 +10,11 @@ use Rattle.handler_ops.proofs.server.Server.answer.Goals as goal
 
 pub answer-requires-clause-fits : goal.answer-requires-clause-fits
 answer-requires-clause-fits c =
-    told_fits (session_in c.self.inside.progress c.self.inside.told) (subst (λ (s : Session). HasTold s) (sym c.self.view_is) c.requires.told)
+    told_fits (session_in c.self.inside.progress.value c.self.inside.told) (subst (λ (s : Session). HasTold s) (sym c.self.view_is) c.requires.told)
 
 pub invariant_of-self : goal.invariant_of-self
 invariant_of-self c =
-    let p = c.self.inside.progress in
+    let p = c.self.inside.progress.value in
     let fits = told_fits (session_in p c.self.inside.told) (subst (λ (s : Session). HasTold s) (sym c.self.view_is) c.requires.told) in
     let goes = answer_goes (setting_in p) (course_in p) c.self.inside.told c.args.found c.args.held.now.desks p.setup.processors fits c.self.invariant.goes in
     record {

@@ -11,5 +11,5 @@ pub returns-clause-need : goal.returns-clause-need
 returns-clause-need c =
     c.need_of.ensures
     ∙ ap need_as c.row_of-row.ensures
-    ∙ need_of_row (setting_in c.self.inside.progress) c.args.held.now.desks (course_in c.self.inside.progress)
+    ∙ need_of_row (setting_in c.self.inside.progress.value) c.args.held.now.desks (course_in c.self.inside.progress.value)
     ∙ ap (λ (v : Session). need_of (setting_of v) c.args.held.now.desks v.course) c.self.view_is
