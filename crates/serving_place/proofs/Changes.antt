@@ -15,7 +15,7 @@ use Rattle.smram_pool.specs.declared.error.PoolError.{PoolError}
 use Rattle.smram_pool.specs.declared.error.PoolError.TheVariants as pool
 use Rattle.serving_place.specs.Serving.{Serving, put_on}
 use Rattle.serving_place.specs.Operations.{after, pool_status}
-use Rattle.serving_place.proofs.Looks.{live_only_given}
+use Rattle.serving_place.proofs.Looks.{live_only_given, zero_not_live}
 
 pub refused_put : (e : PoolError) (into x : ℕ) (s : Serving) → put_on (pool_status e) into x s ≡ s
 refused_put pool.Zero into x s = refl
@@ -36,6 +36,9 @@ not_live_stays n g e = ap (λ (rs : List Registration). record g { live = rs }) 
 
 pub not_given_stays : (n : ℕ) (g : Registrations) → IsRegistered g → g.last < n → unregistered n g ≡ g
 not_given_stays n g h a = not_live_stays n g (live_only_given n g h a)
+
+pub zero_stays : (n : ℕ) (g : Registrations) → IsRegistered g → n ≡ 0 → unregistered n g ≡ g
+zero_stays n g h e = not_live_stays n g (zero_not_live n g h e)
 
 -- a write leaves all that serving knows as it was, and no other operation goes by its label
 pub after_write : (cpu reg width : ℕ) (v : Operand) (s : Serving) (l : Label) → after (op.Write cpu reg width v) s l ≡ s

@@ -47,6 +47,16 @@ live_given serial above last (x ∷ rs) r h =
 pub live_only_given : (serial : ℕ) (g : Registrations) → IsRegistered g → g.last < serial → is_live serial g ≡ false
 live_only_given serial g h a = live_given serial 0 g.last g.live h.rising a
 
+-- a live registration's serial number is at least 1
+below_all : (above last : ℕ) (rs : List Registration) → IsRising above last rs → list_any (has_serial 0) rs ≡ false
+below_all above last [] r = refl
+below_all above last (x ∷ rs) r =
+    let other : has_serial 0 x ≡ false = ne_eqb x.serial 0 (omega (arith, r.1)) in
+    rw other (below_all x.serial last rs r.2)
+
+pub zero_not_live : (serial : ℕ) (g : Registrations) → IsRegistered g → serial ≡ 0 → is_live serial g ≡ false
+zero_not_live serial g h e = rw e (below_all 0 g.last g.live h.rising)
+
 pub live_found : (serial : ℕ) (g : Registrations) → is_live serial g ≡ is_some (handler_at serial g)
 live_found serial g = live_is serial g.live
 

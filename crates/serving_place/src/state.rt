@@ -128,11 +128,12 @@ impl State {
     }
 
     /// A live registration has this serial number.
-    #[tactic(auto, using(crate::proofs::Looks::live_found, crate::proofs::Looks::live_only_given))]
+    #[tactic(auto, using(crate::proofs::Looks::live_found, crate::proofs::Looks::live_only_given, crate::proofs::Looks::zero_not_live))]
     pub fn is_live(&self, serial: u64) -> bool
         ensures { result ≡ is_live serial self.now.registrations }
     {
         serial <= u64::from(self.registrations.last())
+            && serial != 0
             && self.registrations.handler_of(serial as u32).is_some()
     }
 
@@ -389,12 +390,12 @@ pub fn pool_status(error: PoolError) -> Status
     }
 }
 
-// A serial number that was not given yet is that of no live registration.
-#[tactic(auto, using(crate::proofs::Changes::not_live_stays, crate::proofs::Changes::not_given_stays))]
+// 0, and a serial number that was not given yet, is that of no live registration.
+#[tactic(auto, using(crate::proofs::Changes::not_live_stays, crate::proofs::Changes::not_given_stays, crate::proofs::Changes::zero_stays))]
 fn unregister(registry: &mut Registry, handle: u64)
     ensures { registry.new ≡ unregistered handle registry.old }
 {
-    if handle <= u64::from(registry.last()) {
+    if handle <= u64::from(registry.last()) && handle != 0 {
         let _ = registry.unregister(handle as u32);
     }
 }
