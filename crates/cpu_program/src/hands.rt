@@ -2,12 +2,10 @@ ghost use Rattle.std.specs.Prelude.{◌≡◌, true, Some, is_some, slice_set, I
 ghost use Rattle.cpu_table.specs.Data.{data_of};
 ghost use Rattle.sync_words.specs.Steps.{hand_of};
 ghost use Rattle.handler_ops.specs.Course.{desk_of};
-ghost use Rattle.cpu_program.specs.Actors.{OfProcessor};
 ghost use Rattle.cpu_program.specs.Processors.{can_run};
-ghost use Rattle.cpu_program.specs.Bounds.{IsProcessor};
 ghost use Rattle.cpu_program.specs.Views.{processor_in};
 ghost use Rattle.cpu_program.specs.Hands.{after_giving, after_receiving, chair_received, desk_given, desk_left, desk_received, is_giving_back, job_run, thing_given};
-ghost use Rattle.cpu_program.specs.Programs.{gift_of, gift_of_hand, given, given_by_hand, received};
+ghost use Rattle.cpu_program.specs.Programs.{gift_of_hand, given_by_hand, received_by_hand};
 
 use crate::cargo::Cargo;
 use crate::part::Part;
@@ -18,12 +16,11 @@ use sync_words::{Hand, Row, Want};
 
 // How a processor gives and receives.
 impl Processor {
-    /// The thing that it wants to give is there.
-    pub fn has_gift(&self) -> bool
-        requires { IsProcessor (processor_in self.now) }
-        ensures { result ≡ is_some (gift_of (OfProcessor (processor_in self.now))) }
+    /// The thing that a hand gives is there.
+    pub fn has_gift(&self, hand: Hand) -> bool
+        ensures { result ≡ is_some (gift_of_hand hand (processor_in self.now)) }
     {
-        match hand_of(self.want()) {
+        match hand {
             Hand::Give(k) => self.has(k),
             Hand::Take(_) | Hand::Nothing => false,
         }
@@ -39,14 +36,12 @@ impl Processor {
         }
     }
 
-    /// Gives what it wants to give, which is there.
-    pub fn give_wanted(&mut self) -> Cargo
-        requires processor { IsProcessor (processor_in self.old) }
-        requires there { IsSome (gift_of (OfProcessor (processor_in self.old))) }
-        ensures gift { Some result ≡ gift_of (OfProcessor (processor_in self.old)) }
-        ensures after { OfProcessor (processor_in self.new) ≡ given (OfProcessor (processor_in self.old)) }
+    /// Gives what a hand gives, which is there.
+    pub fn give_wanted(&mut self, hand: Hand) -> Cargo
+        requires { IsSome (gift_of_hand hand (processor_in self.old)) }
+        ensures gift { Some result ≡ gift_of_hand hand (processor_in self.old) }
+        ensures after { processor_in self.new ≡ given_by_hand hand (processor_in self.old) }
     {
-        let hand = hand_of(self.want());
         cargo_of(self.give_by(hand))
     }
 
@@ -60,12 +55,11 @@ impl Processor {
         }
     }
 
-    /// Receives what it wants to take, or what it gave and didn't move.
-    pub fn receive_wanted(&mut self, cargo: Cargo)
-        requires { IsProcessor (processor_in self.old) }
-        ensures { OfProcessor (processor_in self.new) ≡ received cargo (OfProcessor (processor_in self.old)) }
+    /// Receives what a hand takes, or what it gave and didn't move.
+    pub fn receive_wanted(&mut self, hand: Hand, cargo: Cargo)
+        ensures { processor_in self.new ≡ received_by_hand hand cargo (processor_in self.old) }
     {
-        match hand_of(self.want()) {
+        match hand {
             Hand::Give(k) | Hand::Take(k) => self.receive(k, cargo),
             Hand::Nothing => {}
         }
@@ -140,8 +134,8 @@ impl Processor {
     }
 }
 
-// What changes hands with a wanted access.
-fn hand_of(want: Want) -> Hand
+/// What changes hands with a wanted access.
+pub fn hand_of(want: Want) -> Hand
     ensures { result ≡ hand_of want }
 {
     match want {

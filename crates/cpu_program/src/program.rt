@@ -7,6 +7,7 @@ ghost use Rattle.cpu_program.specs.Platforms.{FitsPlatform};
 ghost use Rattle.cpu_program.specs.Programs.{first_actor, gift_of, given, is_off, is_processor, last_of, number_of, processors_of, received, taken, want_of, IsAccess, IsWanted};
 
 use crate::cargo::Cargo;
+use crate::hands::hand_of;
 use crate::state::State;
 use cpu_regs::Regs;
 use cpu_table::Setup;
@@ -15,7 +16,7 @@ use save_state_map::Image;
 use smm_base::NoMemory;
 use std::alloc::Global;
 use std::marker::Model;
-use sync_words::{Access, Applied, Event, Want, WordId};
+use sync_words::{Access, Applied, Event, Hand, Label, Want, WordId};
 
 /// What one actor does: a processor, or the chipset. It tells the access that it wants, is told what the access found, and answers
 /// with the event. The desk or the chair that changes hands at the access is given before it is told, or received.
@@ -74,10 +75,15 @@ impl Program {
     pub fn can_give(&self) -> bool
         ensures { result ≡ is_some (gift_of self.now) }
     {
-        match &self.state {
-            State::Processor(processor) => processor.has_gift(),
-            State::Chipset(_) => false,
-        }
+        self.has_gift(hand_of(self.state.want()))
+    }
+
+    /// The same, where the wanted hand is known.
+    pub fn has_gift(&self, hand: Hand) -> bool
+        requires { hand ≡ hand_of (want_of self.now) }
+        ensures { result ≡ is_some (gift_of self.now) }
+    {
+        self.state.has_gift(hand)
     }
 
     /// Gives what it wants to give. An AP that gives its desk back runs its job first.
@@ -87,7 +93,19 @@ impl Program {
         ensures after { self.new ≡ given self.old }
         ensures wants { want_of self.new ≡ want_of self.old }
     {
-        self.state.give()
+        let hand = hand_of(self.state.want());
+        self.give_by(hand)
+    }
+
+    /// The same, where the wanted hand is known.
+    pub fn give_by(&mut self, hand: Hand) -> Cargo
+        requires wanted { hand ≡ hand_of (want_of self.old) }
+        requires there { IsSome (gift_of self.old) }
+        ensures gift { Some result ≡ gift_of self.old }
+        ensures after { self.new ≡ given self.old }
+        ensures wants { want_of self.new ≡ want_of self.old }
+    {
+        self.state.give(hand)
     }
 
     /// Receives what it wants to take, or takes back what it gave just before and what didn't move. It is safe for every cargo: what
@@ -96,7 +114,17 @@ impl Program {
         ensures after { self.new ≡ received cargo self.old }
         ensures wants { want_of self.new ≡ want_of self.old }
     {
-        self.state.receive(cargo);
+        let hand = hand_of(self.state.want());
+        self.receive_by(hand, cargo);
+    }
+
+    /// The same, where the wanted hand is known.
+    pub fn receive_by(&mut self, hand: Hand, cargo: Cargo)
+        requires { hand ≡ hand_of (want_of self.old) }
+        ensures after { self.new ≡ received cargo self.old }
+        ensures wants { want_of self.new ≡ want_of self.old }
+    {
+        self.state.receive(hand, cargo);
     }
 
     /// Goes on after the wanted access was accepted and what changes hands has done so, and gives the event.
@@ -110,7 +138,7 @@ impl Program {
     {
         let (word, access) = wanted(self.state.want());
         let actor = self.state.number();
-        let label = self.state.take(applied);
+        let label = self.conclude(applied);
         Event {
             actor,
             word,
@@ -118,6 +146,15 @@ impl Program {
             found: applied.found(),
             label,
         }
+    }
+
+    /// The same, of which it gives what the event says.
+    pub fn conclude(&mut self, applied: Applied) -> Label
+        requires { Accepts (want_of self.old) applied }
+        ensures label { result ≡ (taken self.old (found_of applied)).label }
+        ensures after { self.new ≡ (taken self.old (found_of applied)).after }
+    {
+        self.state.take(applied)
     }
 
     /// The image of the last resume, or the first image of a processor that never resumed; none for the chipset.

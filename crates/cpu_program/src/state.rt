@@ -1,6 +1,6 @@
-ghost use Rattle.std.specs.Prelude.{◌≡◌, ◌<◌, Some, IfOk, IsSome};
+ghost use Rattle.std.specs.Prelude.{◌≡◌, ◌<◌, Some, is_some, IfOk, IsSome};
 ghost use Rattle.cpu_table.specs.Data.{data_of};
-ghost use Rattle.sync_words.specs.Steps.{Accepts, found_of};
+ghost use Rattle.sync_words.specs.Steps.{Accepts, found_of, hand_of};
 ghost use Rattle.cpu_program.specs.Bounds.{IsActor};
 ghost use Rattle.cpu_program.specs.Programs.{first_actor, gift_of, given, number_of, received, taken, want_of};
 ghost use Rattle.cpu_program.specs.Views.{actor_in};
@@ -15,7 +15,7 @@ use handler_ops::Server;
 use save_state_map::Image;
 use smm_base::NoMemory;
 use std::alloc::Global;
-use sync_words::{Applied, Label, Want};
+use sync_words::{Applied, Hand, Label, Want};
 
 /// The actor of a program.
 #[derive(Drop)]
@@ -69,26 +69,37 @@ impl State {
         }
     }
 
+    /// The thing that it wants to give is there.
+    pub fn has_gift(&self, hand: Hand) -> bool
+        requires { hand ≡ hand_of (want_of (actor_in self.now)) }
+        ensures { result ≡ is_some (gift_of (actor_in self.now)) }
+    {
+        match self {
+            State::Processor(processor) => processor.has_gift(hand),
+            State::Chipset(_) => false,
+        }
+    }
+
     /// Gives what it wants to give, which is there.
-    pub fn give(&mut self) -> Cargo
-        requires actor { IsActor (actor_in self.old) }
+    pub fn give(&mut self, hand: Hand) -> Cargo
+        requires wanted { hand ≡ hand_of (want_of (actor_in self.old)) }
         requires there { IsSome (gift_of (actor_in self.old)) }
         ensures gift { Some result ≡ gift_of (actor_in self.old) }
         ensures after { actor_in self.new ≡ given (actor_in self.old) }
     {
         match self {
-            State::Processor(processor) => processor.give_wanted(),
+            State::Processor(processor) => processor.give_wanted(hand),
             State::Chipset(_) => unreachable!(),
         }
     }
 
     /// Receives what it wants to take, or what it gave and didn't move.
-    pub fn receive(&mut self, cargo: Cargo)
-        requires { IsActor (actor_in self.old) }
+    pub fn receive(&mut self, hand: Hand, cargo: Cargo)
+        requires { hand ≡ hand_of (want_of (actor_in self.old)) }
         ensures { actor_in self.new ≡ received cargo (actor_in self.old) }
     {
         if let State::Processor(processor) = self {
-            processor.receive_wanted(cargo);
+            processor.receive_wanted(hand, cargo);
         }
     }
 

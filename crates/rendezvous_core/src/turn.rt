@@ -12,7 +12,7 @@ use crate::lying::Lying;
 use crate::stepped::Stepped;
 use crate::words::Words;
 use cpu_program::Program;
-use sync_words::{Access, Applied, Hand, LOCKED, Want, WordId, apply};
+use sync_words::{Access, Applied, Event, Hand, LOCKED, Want, WordId, apply};
 
 // An access of an actor.
 #[derive(Clone, Copy)]
@@ -31,7 +31,13 @@ fn tell(attempt: Attempt, applied: Applied, program: &mut Program) -> Stepped
     ensures event { result ≡ stepped.Event (event_of attempt.me attempt.word attempt.access (found_of applied) (taken program.old (found_of applied)).label) }
     ensures after { program.new ≡ (taken program.old (found_of applied)).after }
 {
-    Stepped::Event(program.take(applied))
+    Stepped::Event(Event {
+        actor: attempt.me,
+        word: attempt.word,
+        access: attempt.access,
+        found: applied.found(),
+        label: program.conclude(applied),
+    })
 }
 
 // The word changes, and the program lays a thing on it. Without that thing it waits.
@@ -54,10 +60,10 @@ fn give(
     ensures lying { lying.new ≡ lying_by (gives words.old lying.old attempt.me attempt.word attempt.access new found program.old (gift_of program.old)) lying.old }
     ensures actor { program.new ≡ actor_by (gives words.old lying.old attempt.me attempt.word attempt.access new found program.old (gift_of program.old)) program.old }
 {
-    if !program.can_give() {
+    if !program.has_gift(attempt.hand) {
         return Stepped::Waiting(found);
     }
-    let cargo = program.give();
+    let cargo = program.give_by(attempt.hand);
     words.set(attempt.word, new);
     lying.lay(attempt.word, cargo);
     tell(attempt, Applied::Changed { new, found }, program)
@@ -87,7 +93,7 @@ fn take(
         None => Stepped::Waiting(found),
         Some(cargo) => {
             words.set(attempt.word, new);
-            program.receive(cargo);
+            program.receive_by(attempt.hand, cargo);
             tell(attempt, Applied::Changed { new, found }, program)
         }
     }

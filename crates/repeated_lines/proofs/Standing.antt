@@ -5,6 +5,8 @@ use Rattle.std.specs.Cmp.Lexicographic.{pointwise}
 use Rattle.std.specs.Bool.{Decides}
 use Rattle.std.proofs.lemmas.List.{length-drop, take_all, take_at}
 use Rattle.std.proofs.lemmas.Slice.Eq.{starts_is}
+use Rattle.smm_base.specs.Register.{register_number, register_numbered}
+use Rattle.smm_base.specs.declared.registers.Register.{Register}
 use Rattle.sync_words.specs.Texts.{event_line}
 use Rattle.sync_words.specs.declared.event.Event.{Event}
 use Rattle.trace_text.specs.Spelling.{IsSpelling, StandsAt}
@@ -40,3 +42,9 @@ spelled_with n m event other few same is = subst (λ k. IsSpelled k other) (sym 
 
 pub spelled_again : (n m : ℕ) (event : Event) → n < 2 ^ 16 → m ≡ n → IsSpelled m event → IsSpelling n event
 spelled_again n m event few same is = spelled_is n few event (subst (λ k. IsSpelled k event) same is)
+
+-- a register is told by its number
+pub same_register : (one other : Register) → ((r : Register) → register_numbered (register_number r) ≡ Some r) → register_number one ≡ register_number other → one ≡ other
+same_register one other laws same =
+    let both : Some one ≡ Some other = sym (laws one) ∙ ap register_numbered same ∙ laws other in
+    cc

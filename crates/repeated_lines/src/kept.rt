@@ -1,4 +1,4 @@
-ghost use Rattle.std.specs.Prelude.{◌≡◌, ◌≤◌, ◌<◌, length, take, IfSome, IsTrue};
+ghost use Rattle.std.specs.Prelude.{◌≡◌, ◌≤◌, ◌<◌, take, IfSome, IsTrue};
 ghost use Rattle.sync_words.specs.Texts.{event_line};
 ghost use Rattle.trace_text.specs.Spelling.{StandsAt};
 
@@ -7,8 +7,11 @@ use sync_words::Event;
 /// The most bytes of a line that is kept, with its line end. A longer one is told by its values, and seldom comes again.
 pub(crate) const MOST: usize = 64;
 
-/// How many lines are kept.
+/// How many lines that were read are kept.
 pub(crate) const LINES: usize = 128;
+
+/// How many lines that were written are kept.
+pub(crate) const WRITTEN: usize = 256;
 
 /// The line of an event, with its line end.
 #[derive(Clone, Copy)]

@@ -1,9 +1,11 @@
-// Event lines as text, both ways, where many lines come again: an actor that waits repeats its line. The last line of each actor
-// is kept, and one that comes again is neither taken apart nor put together anew.
+// Event lines as text, both ways, where many lines come again: an actor that waits repeats its line, and so does a handler that is
+// called once more. Some lines are kept, and one that comes again is neither taken apart nor put together anew.
 #![tactic(auto)]
 
 mod kept;
+mod place;
 mod reader;
+mod same;
 mod writer;
 
 pub use reader::LineReader;

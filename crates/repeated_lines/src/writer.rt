@@ -1,17 +1,19 @@
-ghost use Rattle.std.specs.Prelude.{◌≡◌, ◌++◌, IfSome, IsTrue, OnOk, OnErr};
+ghost use Rattle.std.specs.Prelude.{◌≡◌, ◌++◌, IfSome, OnOk, OnErr};
 ghost use Rattle.sync_words.specs.Texts.{event_line};
 
-use crate::kept::{KeptLine, LINES};
+use crate::kept::{KeptLine, WRITTEN};
+use crate::place::place_of;
+use crate::same::is_same;
 use smm_base::NoMemory;
 use std::marker::Model;
-use sync_words::{Access, Event, Label, WordId};
+use sync_words::Event;
 use trace_text::write_event;
 
 /// A writer of the lines of events on a platform of so many processors, as which contracts see it.
 #[derive(Drop)]
 pub struct LineWriter {
     processors: u16,
-    lines: [Option<KeptLine>; 128],
+    lines: [Option<KeptLine>; 256],
 }
 
 impl Model for LineWriter {
@@ -28,7 +30,7 @@ impl LineWriter {
     {
         LineWriter {
             processors,
-            lines: [None; LINES],
+            lines: [None; WRITTEN],
         }
     }
 
@@ -36,7 +38,7 @@ impl LineWriter {
     fn again<'a>(&'a self, event: &Event) -> Option<&'a [u8]>
         ensures { IfSome result (λ line. line.now ≡ event_line self.now event.now) }
     {
-        match &self.lines[usize::from(event.actor) % LINES] {
+        match &self.lines[place_of(event)] {
             Some(line) => again(self.processors, line, event),
             None => None,
         }
@@ -50,11 +52,7 @@ impl LineWriter {
     {
         let before = out.len();
         write_event(self.processors, event, out)?;
-        self.lines[usize::from(event.actor) % LINES] = KeptLine::new(
-            self.processors,
-            *event,
-            &out[before..],
-        );
+        self.lines[place_of(event)] = KeptLine::new(self.processors, *event, &out[before..]);
         Ok(())
     }
 
@@ -77,53 +75,6 @@ impl LineWriter {
             None => self.anew(event, out),
         }
     }
-}
-
-fn is_same_word(one: WordId, other: WordId) -> bool
-    ensures { IsTrue result → one ≡ other }
-{
-    match (one, other) {
-        (WordId::Counter, WordId::Counter)
-        | (WordId::Bsp, WordId::Bsp)
-        | (WordId::Inside, WordId::Inside)
-        | (WordId::Insync, WordId::Insync)
-        | (WordId::Source, WordId::Source)
-        | (WordId::Except, WordId::Except) => true,
-        (WordId::Pend(one), WordId::Pend(other)) => one == other,
-        (WordId::Present(one), WordId::Present(other)) => one == other,
-        (WordId::Run(one), WordId::Run(other)) => one == other,
-        (WordId::Busy(one), WordId::Busy(other)) => one == other,
-        _ => false,
-    }
-}
-
-// Are they the same access, of those that an actor repeats while it waits?
-fn is_same_access(one: Access, other: Access) -> bool
-    ensures { IsTrue result → one ≡ other }
-{
-    match (one, other) {
-        (Access::Look, Access::Look) => true,
-        (Access::Seek(one), Access::Seek(other)) => one == other,
-        _ => false,
-    }
-}
-
-// Do they say nothing?
-fn are_silent(one: Label, other: Label) -> bool
-    ensures { IsTrue result → one ≡ other }
-{
-    matches!((one, other), (Label::Silent, Label::Silent))
-}
-
-// Are they the same event, of those that an actor repeats while it waits?
-fn is_same(one: &Event, other: &Event) -> bool
-    ensures { IsTrue result → one.now ≡ other.now }
-{
-    one.actor == other.actor
-        && one.found == other.found
-        && is_same_word(one.word, other.word)
-        && is_same_access(one.access, other.access)
-        && are_silent(one.label, other.label)
 }
 
 // The line of an event, where this is it.

@@ -4,7 +4,7 @@ use Rattle.cpu_program.specs.Programs.{want_of}
 use Rattle.cpu_program.specs.Views.{actor_in}
 use Rattle.cpu_program.proofs.StayLemmas.{received_stays}
 use Rattle.cpu_program.proofs.WantLemmas.{receiving_keeps}
-use Rattle.cpu_program.proofs.program.Program.receive.Goals as goal
+use Rattle.cpu_program.proofs.program.Program.receive_by.Goals as goal
 
 pub invariant_of-self : goal.invariant_of-self
 invariant_of-self c = subst IsActor (sym c.receive.ensures) (received_stays c.args.cargo (actor_in c.self.inside.state) c.self.invariant)
