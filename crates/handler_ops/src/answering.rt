@@ -88,38 +88,38 @@ fn collect(progress: &mut Progress, cpu: u16, desks: &mut Desks) -> Label
 // The label by what the access of a need found. A write changes the image at hand, and the job of a desk that came
 // is taken off it.
 #[tactic(auto, using(crate::proofs::Answered::read_fits, crate::proofs::Answered::write_fits))]
-pub fn answer(progress: &mut Progress, told: Row, found: u32, desks: &mut Desks) -> Label
+pub fn answer(progress: &mut Progress, told: &Row, found: u32, desks: &mut Desks) -> Label
     requires room { 4 ≤ vec_capacity progress.old.walks }
-    requires fits { RowFits told (operation_due (due (program_in progress.old) (place_in progress.old))) progress.old.state }
-    requires at_hand { IsAtHand told desks.old }
-    ensures label { result ≡ label_of ((step_as (setting_in progress.old) progress.old.state told).on found desks.old) }
-    ensures course { course_in progress.new ≡ moved (setting_in progress.old) (course_in progress.old) ((step_as (setting_in progress.old) progress.old.state told).on found desks.old) desks.old }
-    ensures desks { desks.new ≡ kept_as told found desks.old }
+    requires fits { RowFits told.now (operation_due (due (program_in progress.old) (place_in progress.old))) progress.old.state }
+    requires at_hand { IsAtHand told.now desks.old }
+    ensures label { result ≡ label_of ((step_as (setting_in progress.old) progress.old.state told.now).on found desks.old) }
+    ensures course { course_in progress.new ≡ moved (setting_in progress.old) (course_in progress.old) ((step_as (setting_in progress.old) progress.old.state told.now).on found desks.old) desks.old }
+    ensures desks { desks.new ≡ kept_as told.now found desks.old }
     ensures stays { progress.new ≡ record progress.old { entry = progress.new.entry; walks = progress.new.walks; pending = progress.new.pending; marked = progress.new.marked; state = progress.new.state } }
     ensures room { vec_capacity progress.new.walks ≡ vec_capacity progress.old.walks }
 {
     match told {
         Row::Finished => pause(progress, false),
-        Row::Looking(label) => speak(progress, Saying::Known(label)),
+        Row::Looking(label) => speak(progress, Saying::Known(*label)),
         Row::ClaimingDesk(_, label) => {
             if found == 1 {
                 pause(progress, false)
             } else {
-                speak(progress, Saying::Known(label))
+                speak(progress, Saying::Known(*label))
             }
         }
         Row::ClaimingJob(cpu, label) => {
             if found == 2 {
-                collect(progress, cpu, desks)
+                collect(progress, *cpu, desks)
             } else {
-                speak(progress, Saying::Known(label))
+                speak(progress, Saying::Known(*label))
             }
         }
-        Row::AwaitingJob(cpu) => collect(progress, cpu, desks),
+        Row::AwaitingJob(cpu) => collect(progress, *cpu, desks),
         Row::Putting(_) => pause(progress, true),
-        Row::Raising(_, label) => speak(progress, Saying::Known(label)),
+        Row::Raising(_, label) => speak(progress, Saying::Known(*label)),
         Row::Reading { cpu, reg, width } => {
-            let label = read_at_hand(progress, desks, cpu, reg, width);
+            let label = read_at_hand(progress, desks, *cpu, *reg, *width);
             speak(progress, Saying::Known(label))
         }
         Row::Writing {
@@ -128,10 +128,10 @@ pub fn answer(progress: &mut Progress, told: Row, found: u32, desks: &mut Desks)
             width,
             value,
         } => {
-            let label = write_at_hand(desks, cpu, reg, width, value);
+            let label = write_at_hand(desks, *cpu, *reg, *width, *value);
             speak(progress, Saying::Known(label))
         }
-        Row::Allocating(size) => speak(progress, Saying::Allocation(size)),
-        Row::Freeing(place) => speak(progress, Saying::Release(place)),
+        Row::Allocating(size) => speak(progress, Saying::Allocation(*size)),
+        Row::Freeing(place) => speak(progress, Saying::Release(*place)),
     }
 }

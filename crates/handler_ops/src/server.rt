@@ -117,7 +117,7 @@ impl Server {
     {
         let told = self.told;
         self.told = Row::Finished;
-        answer(&mut self.progress, told, found, &mut held.desks)
+        answer(&mut self.progress, &told, found, &mut held.desks)
     }
 
     /// The access that is wanted while a need is unanswered. `Finished` before the first `next` of a session, after an answer

@@ -14,11 +14,11 @@ use smi_manage::Manage;
 use smm_base::HandlerType;
 use sync_words::Label;
 
-fn known(saying: Saying) -> Label
-    ensures { result ≡ known_label saying }
+fn known(saying: &Saying) -> Label
+    ensures { result ≡ known_label saying.now }
 {
     match saying {
-        Saying::Known(label) => label,
+        Saying::Known(label) => *label,
         Saying::Allocation(_) => Label::Silent,
         Saying::Release(_) => Label::Silent,
     }
@@ -204,13 +204,13 @@ impl Progress {
 impl Progress {
     /// The operation says its own label, or the collect of a job before it; a manage opens a walk.
     #[tactic(auto, using(crate::proofs::Doing::known_manage, crate::proofs::Doing::doing_manage, crate::proofs::Doing::doing_other))]
-    fn operate(&mut self, called: Called, saying: Saying) -> Label
+    fn operate(&mut self, called: Called, saying: &Saying) -> Label
         requires begun { self.old.pending ≡ pending.Nothing }
         requires room { 4 ≤ vec_capacity self.old.walks }
-        requires fits { IsSomeAnd (slice_get (operations_of (program_in self.old) called.handler) called.at) (λ o. Fits saying (Some o) self.old.state) }
-        ensures label { result ≡ label_in self.old.state.pool saying }
+        requires fits { IsSomeAnd (slice_get (operations_of (program_in self.old) called.handler) called.at) (λ o. Fits saying.now (Some o) self.old.state) }
+        ensures label { result ≡ label_in self.old.state.pool saying.now }
         ensures place { IfSome (slice_get (operations_of (program_in self.old) called.handler) called.at)
-            (λ o. place_in self.new ≡ after_doing (levels_left (place_in self.old).walks) (place_in self.old).kinds (place_in self.old).walks o self.old.state (label_in self.old.state.pool saying)) }
+            (λ o. place_in self.new ≡ after_doing (levels_left (place_in self.old).walks) (place_in self.old).kinds (place_in self.old).walks o self.old.state (label_in self.old.state.pool saying.now)) }
         ensures stays { self.new ≡ record self.old { walks = self.new.walks; pending = self.new.pending; state = self.new.state } }
         ensures room { vec_capacity self.new.walks ≡ vec_capacity self.old.walks }
     {
@@ -223,7 +223,7 @@ impl Progress {
                     known(saying)
                 }
                 None => {
-                    let label = self.state.operate(op, saying);
+                    let label = self.state.operate(op, *saying);
                     self.pending = pending_by(called, op, label);
                     label
                 }
@@ -233,21 +233,21 @@ impl Progress {
 
     /// A handler that is being called goes on to its next operation, in a unit of its own, or returns.
     #[tactic(auto, using(crate::proofs::Doing::known_at, crate::proofs::Doing::known_spent, crate::proofs::Doing::begins_fit, crate::proofs::Stack::at_left_none, crate::proofs::Stack::at_left_some))]
-    fn in_call(&mut self, walk: Walk, called: Called, saying: Saying) -> Label
+    fn in_call(&mut self, walk: &Walk, called: Called, saying: &Saying) -> Label
         requires begun { self.old.pending ≡ pending.Nothing }
         requires room { 4 ≤ vec_capacity self.old.walks }
         requires some { 0 < length self.old.walks.items }
-        requires called { walk.called ≡ Some called }
-        requires fits { Fits saying (operation_due (due_in_call (program_in self.old) (levels_left (place_in self.old).walks) called.handler (call_of (program_in self.old) called).ops self.old.state.left)) self.old.state }
-        ensures label { result ≡ label_in self.old.state.pool saying }
+        requires called { walk.now.called ≡ Some called }
+        requires fits { Fits saying.now (operation_due (due_in_call (program_in self.old) (levels_left (place_in self.old).walks) called.handler (call_of (program_in self.old) called).ops self.old.state.left)) self.old.state }
+        ensures label { result ≡ label_in self.old.state.pool saying.now }
         ensures place { place_in self.new ≡ after_in_call (program_in self.old) (place_in self.old).kinds (walks_in (program_in self.old) (take (length self.old.walks.items - 1) self.old.walks.items))
-            (walk_of (program_in self.old) walk) called.handler (call_of (program_in self.old) called).ops self.old.state (label_in self.old.state.pool saying) }
+            (walk_of (program_in self.old) walk.now) called.handler (call_of (program_in self.old) called).ops self.old.state (label_in self.old.state.pool saying.now) }
         ensures stays { self.new ≡ record self.old { entry = self.new.entry; walks = self.new.walks; pending = self.new.pending; state = self.new.state } }
         ensures room { vec_capacity self.new.walks ≡ vec_capacity self.old.walks }
     {
         match self.operation(called) {
             None => {
-                self.handler_returns(walk, called);
+                self.handler_returns(*walk, called);
                 known(saying)
             }
             Some(_) => {
@@ -271,12 +271,12 @@ impl Progress {
 
     /// The same where nothing that was begun is still to be said.
     #[tactic(auto, using(crate::proofs::Doing::known_entry, crate::proofs::Doing::known_turns, crate::proofs::Doing::entered_is, crate::proofs::Doing::in_walks_is, crate::proofs::Doing::due_in_walks_is))]
-    fn say_open(&mut self, saying: Saying) -> Label
+    fn say_open(&mut self, saying: &Saying) -> Label
         requires begun { self.old.pending ≡ pending.Nothing }
         requires room { 4 ≤ vec_capacity self.old.walks }
-        requires fits { Fits saying (operation_due (due_in_walks (program_in self.old) (place_in self.old).kinds (place_in self.old).walks self.old.state.registrations self.old.state.left)) self.old.state }
-        ensures label { result ≡ label_in self.old.state.pool saying }
-        ensures place { place_in self.new ≡ after_in_walks (program_in self.old) (place_in self.old).kinds (place_in self.old).walks self.old.state (label_in self.old.state.pool saying) }
+        requires fits { Fits saying.now (operation_due (due_in_walks (program_in self.old) (place_in self.old).kinds (place_in self.old).walks self.old.state.registrations self.old.state.left)) self.old.state }
+        ensures label { result ≡ label_in self.old.state.pool saying.now }
+        ensures place { place_in self.new ≡ after_in_walks (program_in self.old) (place_in self.old).kinds (place_in self.old).walks self.old.state (label_in self.old.state.pool saying.now) }
         ensures stays { self.new ≡ record self.old { entry = self.new.entry; walks = self.new.walks; pending = self.new.pending; state = self.new.state } }
         ensures room { vec_capacity self.new.walks ≡ vec_capacity self.old.walks }
     {
@@ -290,7 +290,7 @@ impl Progress {
                     self.next_turn(walk);
                     known(saying)
                 }
-                Some(called) => self.in_call(walk, called, saying),
+                Some(called) => self.in_call(&walk, called, saying),
             },
         }
     }
@@ -308,15 +308,15 @@ impl Progress {
         let pending = self.pending;
         self.pending = Pending::Nothing;
         match pending {
-            Pending::Nothing => self.say_open(saying),
-            Pending::First(_) => known(saying),
+            Pending::Nothing => self.say_open(&saying),
+            Pending::First(_) => known(&saying),
             Pending::Awaited { cpu, into } => {
                 self.state.return_to(cpu, into);
-                known(saying)
+                known(&saying)
             }
             Pending::Started(called) => match self.operation(called) {
-                Some(_) => self.operate(called, saying),
-                None => self.say_open(saying),
+                Some(_) => self.operate(called, &saying),
+                None => self.say_open(&saying),
             },
         }
     }
