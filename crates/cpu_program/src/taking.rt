@@ -17,6 +17,20 @@ impl Processor {
         ensures label { result ≡ (taken_in self.old.part (processor_in self.old) (found_of applied)).label }
         ensures after { processor_in self.new ≡ (taken_in self.old.part (processor_in self.old) (found_of applied)).after }
     {
+        match &self.part {
+            Part::Serving => self.take_serving(applied.found()),
+            _ => self.take_elsewhere(applied),
+        }
+    }
+
+    // The same, out of line, so that an event of serving doesn't pay for what the other parts need.
+    #[inline(never)]
+    fn take_elsewhere(&mut self, applied: Applied) -> Label
+        requires processor { IsProcessor (processor_in self.old) }
+        requires accepted { Accepts (want_in self.old.part (processor_in self.old)) applied }
+        ensures label { result ≡ (taken_in self.old.part (processor_in self.old) (found_of applied)).label }
+        ensures after { processor_in self.new ≡ (taken_in self.old.part (processor_in self.old) (found_of applied)).after }
+    {
         let found = applied.found();
         let (label, next) = match &mut self.part {
             Part::Between(row) => {

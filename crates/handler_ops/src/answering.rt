@@ -51,9 +51,10 @@ fn speak(progress: &mut Progress, saying: Saying) -> Label
     ensures stays { progress.new ≡ record progress.old { entry = progress.new.entry; walks = progress.new.walks; pending = progress.new.pending; marked = progress.new.marked; state = progress.new.state } }
     ensures room { vec_capacity progress.new.walks ≡ vec_capacity progress.old.walks }
 {
-    let label = progress.say(saying);
+    let mut said = saying;
+    progress.say_on(&mut said);
     progress.marked = false;
-    label
+    said.known()
 }
 
 // The processor of a job ran it, if it is done.

@@ -96,10 +96,9 @@ impl Server {
         ensures row { self.new ≡ told_on held.old.desks self.old }
         ensures handed { held.new.desks ≡ handed_as self.new.told held.old.desks }
     {
-        let row = row_of(&self.progress, &held.desks);
-        give_by(row, &mut held.desks);
-        self.told = row;
-        need_of(row)
+        self.told = row_of(&self.progress, &held.desks);
+        give_by(&self.told, &mut held.desks);
+        need_of(&self.told)
     }
 
     /// What was found by the access that `next` or `need` asked for: the number that the word held, and the desks that are
@@ -125,7 +124,7 @@ impl Server {
     pub fn need(&self) -> Need
         ensures { result ≡ need_as self.now.told }
     {
-        need_of(self.told)
+        need_of(&self.told)
     }
 
     /// The desk whose register the need looks at is held; so it is where the need is another one.
@@ -158,17 +157,17 @@ impl Server {
     }
 }
 
-fn need_of(row: Row) -> Need
-    ensures { result ≡ need_as row }
+fn need_of(row: &Row) -> Need
+    ensures { result ≡ need_as row.now }
 {
     match row {
         Row::Finished => Need::Finished,
         Row::Looking(_) => Need::Look,
-        Row::ClaimingDesk(c, _) => Need::ClaimPresent(c),
-        Row::ClaimingJob(c, _) => Need::ClaimBusy(c),
-        Row::AwaitingJob(c) => Need::AwaitBusy(c),
-        Row::Putting(c) => Need::PutBusy(c),
-        Row::Raising(c, _) => Need::RaiseRun(c),
+        Row::ClaimingDesk(c, _) => Need::ClaimPresent(*c),
+        Row::ClaimingJob(c, _) => Need::ClaimBusy(*c),
+        Row::AwaitingJob(c) => Need::AwaitBusy(*c),
+        Row::Putting(c) => Need::PutBusy(*c),
+        Row::Raising(c, _) => Need::RaiseRun(*c),
         Row::Reading { .. } => Need::Look,
         Row::Writing { .. } => Need::Look,
         Row::Allocating(_) => Need::Look,
@@ -177,16 +176,16 @@ fn need_of(row: Row) -> Need
 }
 
 // The desk that a raise gives away has the job of its label.
-fn give_by(row: Row, held: &mut Desks)
-    ensures { held.new ≡ handed_as row held.old }
+fn give_by(row: &Row, held: &mut Desks)
+    ensures { held.new ≡ handed_as row.now held.old }
 {
     if let Row::Raising(c, label) = row {
-        give_job(c, label, held);
+        give_job(*c, label, held);
     }
 }
 
-fn give_job(c: u16, label: Label, held: &mut Desks)
-    ensures { held.new ≡ given_job c label held.old }
+fn give_job(c: u16, label: &Label, held: &mut Desks)
+    ensures { held.new ≡ given_job c label.now held.old }
 {
     if let Label::Start {
         job,
@@ -198,9 +197,9 @@ fn give_job(c: u16, label: Label, held: &mut Desks)
         held.give(
             c,
             Job {
-                number: job,
-                procedure,
-                arg,
+                number: *job,
+                procedure: *procedure,
+                arg: *arg,
                 done: None,
             },
         );

@@ -95,12 +95,12 @@ impl World {
     }
 
     // Keeps the event of a step.
-    fn keep(&mut self, stepped: Stepped)
+    fn keep(&mut self, stepped: &Stepped)
         requires { length self.old.events < self.old.room }
-        ensures { self.new ≡ record self.old { events = self.old.events ++ with_event stepped [] } }
+        ensures { self.new ≡ record self.old { events = self.old.events ++ with_event stepped.now [] } }
     {
         if let Stepped::Event(event) = stepped {
-            self.events.push_reserved(event);
+            self.events.push_reserved(*event);
         }
     }
 
@@ -117,7 +117,7 @@ impl World {
         ensures stays { MakesNoEvent result → self.new ≡ self.old }
     {
         let stepped = self.step_actor(actor);
-        self.keep(stepped);
+        self.keep(&stepped);
         stepped
     }
 

@@ -40,6 +40,14 @@ fn label_number(label: Label) -> u32 {
     }
 }
 
+/// May the same line come again soon? One with the number of a job comes once a session.
+pub fn may_come_again(label: &Label) -> bool {
+    !matches!(
+        label,
+        Label::Start { .. } | Label::Run { .. } | Label::Wait { .. }
+    )
+}
+
 /// Where the line of an event is kept: events of many actors, and labels that come one after the other, have different places.
 pub fn place_of(event: &Event) -> usize
     ensures { result < 256 }

@@ -2,7 +2,7 @@ ghost use Rattle.std.specs.Prelude.{◌≡◌, ◌++◌, IfSome, OnOk, OnErr};
 ghost use Rattle.sync_words.specs.Texts.{event_line};
 
 use crate::kept::{KeptLine, WRITTEN};
-use crate::place::place_of;
+use crate::place::{may_come_again, place_of};
 use crate::same::is_same;
 use smm_base::NoMemory;
 use std::marker::Model;
@@ -44,7 +44,8 @@ impl LineWriter {
         }
     }
 
-    // Appends the line of an event, and keeps it.
+    // Appends the line of an event, and keeps it where it may come again.
+    #[inline(never)]
     fn anew(&mut self, event: &Event, out: &mut Vec<u8>) -> Result<(), NoMemory>
         ensures gains_line { OnOk result (out.new.items ≡ out.old.items ++ event_line self.old event.now) }
         ensures kept { OnErr result (out.new.items ≡ out.old.items) }
@@ -52,7 +53,9 @@ impl LineWriter {
     {
         let before = out.len();
         write_event(self.processors, event, out)?;
-        self.lines[place_of(event)] = KeptLine::new(self.processors, *event, &out[before..]);
+        if may_come_again(&event.label) {
+            self.lines[place_of(event)] = KeptLine::new(self.processors, *event, &out[before..]);
+        }
         Ok(())
     }
 

@@ -17,15 +17,15 @@ use Rattle.serving_place.specs.Forms.{Program, operations_of, turn_of}
 use Rattle.serving_place.specs.Places.{Place, OpenWalk, Begun, Started, Awaited, awaits_after, begun_by, levels_left, with_walk, after_operating, after_doing, after_in_walk, after_in_walks}
 use Rattle.serving_place.specs.Due.{Due, Saying as Says, Doing, due_left, due_turn, due_turns, due_in_walk, due_in_walks}
 use Rattle.serving_place.specs.Progresses.{begun_in}
-use Rattle.serving_place.specs.Sayings.{Saying, Known, Allocation, Release, Fits, operation_due, label_in, known_label}
+use Rattle.serving_place.specs.Sayings.{Saying, Known, Allocation, Release, Fits, operation_due, label_in}
 use Rattle.serving_place.specs.Moves.{operated, awaited_by, pending_by, manage_kind, entered}
 
-pub known_at : (y : Saying) (s : Serving) (pool : PoolState) → Fits y None s → known_label y ≡ label_in pool y
+pub known_at : (y : Saying) (s : Serving) (pool : PoolState) → Fits y None s → y ≡ Known (label_in pool y)
 known_at (Known l) s pool h = refl
 known_at (Allocation n) s pool h = absurd h
 known_at (Release n) s pool h = absurd h
 
-known_where : (o : Option OpDef) (y : Saying) (s : Serving) (pool : PoolState) → o ≡ None → Fits y o s → known_label y ≡ label_in pool y
+known_where : (o : Option OpDef) (y : Saying) (s : Serving) (pool : PoolState) → o ≡ None → Fits y o s → y ≡ Known (label_in pool y)
 known_where None y s pool e h = known_at y s pool h
 known_where (Some o) y s pool e h = absurd cc
 
@@ -33,7 +33,7 @@ none_spent : (n : ℕ) (d : Due) → n ≡ 0 → operation_due (due_left n d) �
 none_spent zero d e = refl
 none_spent (suc n) d e = absurd (omega (arith, e))
 
-pub known_spent : (n : ℕ) (d : Due) (y : Saying) (s : Serving) (pool : PoolState) → n ≡ 0 → Fits y (operation_due (due_left n d)) s → known_label y ≡ label_in pool y
+pub known_spent : (n : ℕ) (d : Due) (y : Saying) (s : Serving) (pool : PoolState) → n ≡ 0 → Fits y (operation_due (due_left n d)) s → y ≡ Known (label_in pool y)
 known_spent n d y s pool e h = known_where (operation_due (due_left n d)) y s pool (none_spent n d e) h
 
 none_said : (n : ℕ) (l : Label) → operation_due (due_left n (Says l)) ≡ None
@@ -50,7 +50,7 @@ none_turns kind (n ∷ turns) r g left = at_turn (turn_of kind g n) (none_turns 
     at_turn (Some x) h = none_said left (say.Call x.handler)
 
 pub known_turns : (kind : HandlerType) (turns : List ℕ) (r : Running) (g : Registrations) (left : ℕ) (y : Saying) (s : Serving) (pool : PoolState)
-    → Fits y (operation_due (due_turns kind turns r g left)) s → known_label y ≡ label_in pool y
+    → Fits y (operation_due (due_turns kind turns r g left)) s → y ≡ Known (label_in pool y)
 known_turns kind turns r g left y s pool h = known_where (operation_due (due_turns kind turns r g left)) y s pool (none_turns kind turns r g left) h
 
 none_entry : (program : Program) (kinds : List HandlerType) (g : Registrations) (left : ℕ) → operation_due (due_in_walks program kinds [] g left) ≡ None
@@ -58,10 +58,10 @@ none_entry program [] g left = refl
 none_entry program (kind ∷ kinds) g left = none_said left (say.Manage kind)
 
 pub known_entry : (program : Program) (kinds : List HandlerType) (g : Registrations) (left : ℕ) (y : Saying) (s : Serving) (pool : PoolState)
-    → Fits y (operation_due (due_in_walks program kinds [] g left)) s → known_label y ≡ label_in pool y
+    → Fits y (operation_due (due_in_walks program kinds [] g left)) s → y ≡ Known (label_in pool y)
 known_entry program kinds g left y s pool h = known_where (operation_due (due_in_walks program kinds [] g left)) y s pool (none_entry program kinds g left) h
 
-pub known_manage : (o : OpDef) (kind : HandlerType) (y : Saying) (s : Serving) (pool : PoolState) → manage_kind o ≡ Some kind → Fits y (Some o) s → known_label y ≡ label_in pool y
+pub known_manage : (o : OpDef) (kind : HandlerType) (y : Saying) (s : Serving) (pool : PoolState) → manage_kind o ≡ Some kind → Fits y (Some o) s → y ≡ Known (label_in pool y)
 known_manage (op.Manage kind) k (Known l) s pool e h = refl
 known_manage (op.Manage kind) k (Allocation n) s pool e h = absurd h
 known_manage (op.Manage kind) k (Release n) s pool e h = absurd h

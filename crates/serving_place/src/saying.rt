@@ -1,3 +1,6 @@
+ghost use Rattle.std.specs.Prelude.{◌≡◌};
+ghost use Rattle.serving_place.specs.Sayings.{known_label};
+
 use sync_words::Label;
 
 /// What is said after a need.
@@ -9,4 +12,17 @@ pub enum Saying {
     Allocation(u64),
     /// The label of giving back the block at an address, which is given back then.
     Release(u64),
+}
+
+impl Saying {
+    /// The label, if it is known; else `Silent`.
+    pub fn known(&self) -> Label
+        ensures { result ≡ known_label self.now }
+    {
+        match self {
+            Saying::Known(label) => *label,
+            Saying::Allocation(_) => Label::Silent,
+            Saying::Release(_) => Label::Silent,
+        }
+    }
 }

@@ -256,41 +256,44 @@ impl State {
 }
 
 impl State {
-    /// An operation says its own label, or the collect of a job before it. A call of the pool is made, and the label is then
-    /// what the pool answers.
-    pub fn operate(&mut self, op: &OpDef, saying: Saying) -> Label
-        requires { Fits saying (Some op.now) self.old }
-        ensures label { result ≡ label_in self.old.pool saying }
-        ensures after { self.new ≡ operated op.now self.old (label_in self.old.pool saying) }
+    /// An operation says its own label, or the collect of a job before it. A call of the pool is made, and what the pool answers
+    /// is said then.
+    pub fn operate(&mut self, op: &OpDef, saying: &mut Saying)
+        requires { Fits saying.old (Some op.now) self.old }
+        ensures said { saying.new ≡ Known (label_in self.old.pool saying.old) }
+        ensures after { self.new ≡ operated op.now self.old (label_in self.old.pool saying.old) }
     {
         match saying {
-            Saying::Known(label) => {
-                self.apply(op, label);
-                label
+            Saying::Known(label) => self.apply(op, label),
+            Saying::Allocation(size) => {
+                let size = *size;
+                *saying = Saying::Known(self.allocate(op, size));
             }
-            Saying::Allocation(size) => self.allocate(op, size),
-            Saying::Release(place) => self.release(op, place),
+            Saying::Release(place) => {
+                let place = *place;
+                *saying = Saying::Known(self.release(op, place));
+            }
         }
     }
 
     // What the label changes.
     #[tactic(auto, using(crate::proofs::Changes::after_write, crate::proofs::Changes::after_said_write))]
-    fn apply(&mut self, op: &OpDef, label: Label)
-        requires { Fits (Known label) (Some op.now) self.old }
-        ensures { self.new ≡ operated op.now self.old label }
+    fn apply(&mut self, op: &OpDef, label: &Label)
+        requires { Fits (Known label.now) (Some op.now) self.old }
+        ensures { self.new ≡ operated op.now self.old label.now }
     {
         match (op, label) {
-            (_, Label::Collect(cpu)) => self.collect(cpu),
-            (OpDef::Set { into, .. }, Label::Set { value, .. }) => self.put(*into, value),
+            (_, Label::Collect(cpu)) => self.collect(*cpu),
+            (OpDef::Set { into, .. }, Label::Set { value, .. }) => self.put(*into, *value),
             (OpDef::Read { into, .. }, Label::Read { value, status, .. }) => {
-                self.put_on(status, *into, value);
+                self.put_on(*status, *into, *value);
             }
-            (OpDef::Start { cpu, .. }, Label::Start { job, .. }) => self.give(*cpu, job, false),
+            (OpDef::Start { cpu, .. }, Label::Start { job, .. }) => self.give(*cpu, *job, false),
             (OpDef::Launch { cpu, into, .. }, Label::Start { job, .. }) => {
-                self.give(*cpu, job, true);
-                self.put(*into, u64::from(job));
+                self.give(*cpu, *job, true);
+                self.put(*into, u64::from(*job));
             }
-            (OpDef::Check { .. }, Label::Check { job, status }) => self.drop_on(status, job),
+            (OpDef::Check { .. }, Label::Check { job, status }) => self.drop_on(*status, *job),
             (
                 OpDef::Wait { into, .. },
                 Label::Wait {
@@ -299,8 +302,8 @@ impl State {
                     status,
                 },
             ) => {
-                self.drop_token(job);
-                self.put_on(status, *into, result_value);
+                self.drop_token(*job);
+                self.put_on(*status, *into, *result_value);
             }
             (
                 OpDef::Register {
@@ -310,10 +313,12 @@ impl State {
                 },
                 Label::Register { serial, status, .. },
             ) => {
-                self.register_on(status, *kind, *handler);
-                self.put_on(status, *into, u64::from(serial));
+                self.register_on(*status, *kind, *handler);
+                self.put_on(*status, *into, u64::from(*serial));
             }
-            (OpDef::Unregister { .. }, Label::Unregister { handle, .. }) => self.unregister(handle),
+            (OpDef::Unregister { .. }, Label::Unregister { handle, .. }) => self.unregister(
+                *handle,
+            ),
             (
                 OpDef::Write { .. }
                 | OpDef::Alloc { .. }
