@@ -80,21 +80,6 @@ desks_taken_relaxed d c waves x j v t0 t1 g = record { self = g.self; team = des
 pub desks_taken_relaxed_totals : (c : Context) (x : ℕ) (counter run m t e : ℕ) → IsTotals (at_stage c 11 x) counter run m t e → IsTotals (at_stage c 14 0) counter (run) m t e
 desks_taken_relaxed_totals c x counter run m t e g = grind arith
 
-served_open_team : (c : Context) (x : ℕ) (j : ℕ) (v : View) → v.work ≡ 0 → IsTeam (at_stage c 4 x) j v → IsTeam (at_stage c 8 0) j v
-served_open_team c x j v t0 g = grind arith
-
-served_open_peer : (c : Context) (x : ℕ) (j : ℕ) (v : View) → v.work ≡ 0 → v.team ≤ 1 → IsTeam (at_stage c 4 x) j v → IsPeer (at_stage c 4 x) j v → IsPeer (at_stage c 8 0) j v
-served_open_peer c x j v t0 b e g = grind arith
-
-pub served_open_run : (c : Context) (x : ℕ) (j r : ℕ) (v : View) → v.work ≡ 0 → v.team ≤ 1 → IsTeam (at_stage c 4 x) j v → IsPeer (at_stage c 4 x) j v → IsRunOf (at_stage c 4 x) j v r → IsRunOf (at_stage c 8 0) j v r
-served_open_run c x j r v t0 b e g d = grind arith
-
-pub served_open : (d : SetupData) (c : Context) (waves : ℕ) (x : ℕ) (j : ℕ) (v : View) → v.work ≡ 0 → IsCpu d (at_stage c 4 x) waves j v → IsCpu d (at_stage c 8 0) waves j v
-served_open d c waves x j v t0 g = record { self = g.self; team = served_open_team c x j v t0 g.team; leader = g.leader; peer = λ z. served_open_peer c x j v t0 g.self.team_bit g.team (g.peer z) }
-
-pub served_open_totals : (c : Context) (x : ℕ) (counter run m t e : ℕ) → IsTotals (at_stage c 4 x) counter run m t e → IsTotals (at_stage c 8 0) counter (run) m t e
-served_open_totals c x counter run m t e g = grind arith
-
 served_closed_team : (c : Context) (x : ℕ) (j : ℕ) (v : View) → v.work ≡ 0 → IsTeam (at_stage c 13 x) j v → IsTeam (at_stage c 14 0) j v
 served_closed_team c x j v t0 g = grind arith
 

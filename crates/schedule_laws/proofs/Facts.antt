@@ -90,11 +90,6 @@ early_stage c i v h g a b =
     (λ (z : 11 ≤ c.stage). let t = g.told z in let u = h.team (omega arith) in absurd (omega arith))
     (cases_lt c.stage 11)
 
--- a processor whose `present` isn't 0 is there
-pub here_if : (d : SetupData) (waves : ℕ) (at : Option Desk) (v : View) → IsSelf d waves at v → v.present ≢ 0 → here_of v.station ≡ 1
-here_if d waves at v h a =
-    ⊎_elim (λ (z : here_of v.station ≡ 0). absurd (a (h.absent z))) (λ (z : here_of v.station ≢ 0). let y = here_of-le v.station in omega arith) (cases_eq (here_of v.station) 0)
-
 -- one whose word was raised before it lowered it was released, where it has no job
 pub is_free : (c : Context) (i x : ℕ) (v : View) → 1 ≤ x → v.work ≢ 1 → low v.departed v.station ≡ 0 → v.team ≤ 1 → v.released ≤ 1 → IsPeer c i v → IsRunOf c i v x → v.released ≡ 1
 is_free c i x v a nw b t r g h = grind arith

@@ -211,9 +211,6 @@ first_self d registers image p k own e =
       lent = λ z. absurd (omega arith);
     }
 
-abbrev none_lying : ℕ → List (Option Cargo)
-none_lying n = replicate n None
-
 module _ (d : SetupData) (registers : List Registers) (images : List ImageContents) (p : IsPlatformWith d registers images) where
   abbrev scene : Scene
   scene = first_scene d registers images

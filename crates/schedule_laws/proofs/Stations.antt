@@ -518,33 +518,6 @@ is_here AwaitingEnd h = absurd (omega arith)
 is_here ClearingSignal h = absurd (omega arith)
 is_here Away h = absurd (omega arith)
 
-pub phase_here : (r : Station) → phase_of r ≡ Here → here_of r ≡ 1
-phase_here AwaitingSmi h = absurd (grind arith)
-phase_here SwitchingOff h = absurd (grind arith)
-phase_here LookingAtSource h = absurd (grind arith)
-phase_here LookingInside h = absurd (grind arith)
-phase_here CountingIn h = absurd (grind arith)
-phase_here ClaimingChair h = absurd (grind arith)
-phase_here AskingForChair h = absurd (grind arith)
-phase_here Leading h = absurd (grind arith)
-phase_here AwaitingInside h = absurd (grind arith)
-phase_here FindingBsp h = absurd (grind arith)
-phase_here SignallingBsp h = absurd (grind arith)
-phase_here AwaitingInsideAgain h = absurd (grind arith)
-phase_here CountingOut h = absurd (grind arith)
-phase_here SeekingBsp h = absurd (grind arith)
-phase_here Reporting h = absurd (grind arith)
-phase_here TellingReport h = refl
-phase_here AwaitingRelease h = refl
-phase_here GivingBack h = refl
-phase_here TellingRelease h = refl
-phase_here AwaitingDismissal h = refl
-phase_here Withdrawing h = refl
-phase_here TellingDismissal h = absurd (grind arith)
-phase_here AwaitingEnd h = absurd (grind arith)
-phase_here ClearingSignal h = absurd (grind arith)
-phase_here Away h = absurd (grind arith)
-
 pub made_once : (d : ℕ) (r : Station) → low d r ≡ 0 → made d r ≤ 1 * (member_of r + d)
 made_once d AwaitingSmi h = omega arith
 made_once d SwitchingOff h = omega arith
