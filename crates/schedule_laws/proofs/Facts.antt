@@ -3,12 +3,11 @@ use Rattle.std.proofs.Common.{ℕ, ◌+◌, ◌-◌, ◌*◌, ◌≡◌, ◌≢�
 use Rattle.std.specs.Prelude.{IsSome, IsSomeAnd}
 use Rattle.std.proofs.lemmas.Bool.{cases_eq, cases_lt}
 use Rattle.cpu_table.specs.Data.{SetupData}
-use Rattle.handler_ops.specs.declared.desk.Desk.{Desk}
 use Rattle.rendezvous_machine.specs.Machines.{Machine, Member, Session, member, IsAtWork, IsClosed, IsLed, EachOther, AllReleased}
 use Rattle.schedule_laws.proofs.Scenes.{Scene}
-use Rattle.schedule_laws.proofs.Stations.{Withdrawing, member_of, made, low, here_of, here_of-le, bit}
+use Rattle.schedule_laws.proofs.Stations.{Withdrawing, member_of, made, low, bit}
 use Rattle.schedule_laws.proofs.Sums.{sum_below, sum_below-one_gap, sum_below-zero}
-use Rattle.schedule_laws.proofs.Invariant.{Context, View, IsSelf, IsTeam, IsPeer, IsRunOf, IsReady, view, locked}
+use Rattle.schedule_laws.proofs.Invariant.{Context, View, IsTeam, IsPeer, IsRunOf, IsReady, view, locked}
 use Rattle.schedule_laws.proofs.Frames.{bit_true, counter_low}
 
 pub some_and : {A : Type 0} (o : Option A) (x : A) (P : A → Type 0) → o ≡ Some x → P x → IsSomeAnd o P

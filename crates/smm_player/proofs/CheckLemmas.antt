@@ -1,16 +1,13 @@
 -- What a check loads, judges and tells.
-use Rattle.std.proofs.Common.{◌≡◌, ℕ, ◌^◌, ◌<◌, ◌≤◌, ◌⊎◌, inl, inr, List, length, Option, None, Some, Result, Ok, Err, IfErr, OnOk, refl, ap, sym, ◌∙◌, arith}
-use Rattle.smm_base.specs.Sink.{appended, GainsPrefix, GainsPrefix-none}
+use Rattle.std.proofs.Common.{◌≡◌, ℕ, ◌^◌, ◌<◌, ◌≤◌, ◌⊎◌, inl, inr, List, Option, None, Some, Result, Ok, Err, IfErr, OnOk, refl, ap, sym, ◌∙◌, arith}
+use Rattle.smm_base.specs.Sink.{appended}
 use Rattle.smm_base.specs.Store.{FileMap}
 use Rattle.save_state_map.specs.Images.{ImageContents}
 use Rattle.cpu_table.specs.Data.{SetupData}
-use Rattle.cpu_regs.specs.Registers.{Registers}
 use Rattle.smbase_reloc.specs.declared.error.RelocError.{RelocError}
 use Rattle.rendezvous_core.specs.Starts.{start_refusal, first_registers}
-use Rattle.rendezvous_machine.specs.Machines.{beginning}
 use Rattle.trace_check.specs.Judged.{first_judged}
 use Rattle.trace_judge.specs.declared.fault.TraceFault.{TraceFault}
-use Rattle.trace_judge.specs.Traces.{IsTrace}
 use Rattle.trace_judge.specs.Verdicts.{verdict}
 use Rattle.smm_command.specs.declared.command.Check.{Check}
 use Rattle.smm_command.specs.declared.command.Command.TheVariants as command
@@ -24,7 +21,7 @@ use Rattle.smm_player.specs.Due.{Finding, or_refusal, judged_or, trace_due, trac
 use Rattle.smm_player.specs.Ending.{EndsJudging, EndsWriting, UnlessSaved}
 use Rattle.smm_player.specs.Loading.{LoadCause, RefusedReading, StopsReading}
 use Rattle.smm_player.specs.Outcome.{written_outcome, run_line, due}
-use Rattle.smm_player.specs.Performing.{Checks, Performs, StopsAt, WroteBefore}
+use Rattle.smm_player.specs.Performing.{Performs, StopsAt, WroteBefore}
 use Rattle.smm_player.specs.Traces.{TracePlan, trace_plan, IsJudgeable}
 use Rattle.smm_player.proofs.LoadLemmas.{cause_first}
 

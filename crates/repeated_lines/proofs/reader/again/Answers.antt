@@ -1,4 +1,4 @@
-use Rattle.std.proofs.Common.{sym, arith}
+use Rattle.std.proofs.Common.{arith}
 use Rattle.repeated_lines.proofs.Standing.{spelled_again}
 use Rattle.repeated_lines.proofs.reader.again.Goals as goal
 

@@ -1,5 +1,5 @@
 use Rattle.std.proofs.Common.{arith}
-use Rattle.repeated_lines.proofs.Standing.{spelled_with, text_is}
+use Rattle.repeated_lines.proofs.Standing.{spelled_with}
 use Rattle.repeated_lines.proofs.reader.kept.Goals as goal
 
 pub invariant_of-result : goal.invariant_of-result
