@@ -8,3 +8,4 @@ pub mod Steps
 pub mod Asleep
 pub mod Rounds
 pub mod Own
+pub mod TurnLemmas

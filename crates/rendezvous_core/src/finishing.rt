@@ -16,7 +16,7 @@ fn turn(world: &mut World, actor: u16)
     ensures { world.new ≡ played_on world.old (actor ∷ []) }
 {
     if !world.complete() {
-        let _ = world.step(actor);
+        let _ = world.advance(actor);
     }
 }
 

@@ -13,6 +13,7 @@ mod schedule;
 mod starting;
 mod stepped;
 mod turn;
+mod turned;
 mod words;
 mod words_of_kind;
 mod world;

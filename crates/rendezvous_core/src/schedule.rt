@@ -19,7 +19,7 @@ fn play(mut world: World, schedule: &[u16]) -> World
     ensures room { result.room ≡ world.room }
 {
     for actor in schedule {
-        let _ = world.step(*actor);
+        let _ = world.advance(*actor);
     }
     world
 }

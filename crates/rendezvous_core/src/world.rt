@@ -4,6 +4,7 @@ ghost use Rattle.rendezvous_core.specs.Endings.{IsNeverStuck};
 ghost use Rattle.rendezvous_core.specs.Finishes.{rounds, played_on, HasRoomForAll, IsReplayOfItsActors};
 ghost use Rattle.rendezvous_core.specs.Platforms.{HasFittingImage};
 ghost use Rattle.rendezvous_core.specs.Starts.{AreImagesOf, first_registers, start_refusal, IsRefusedBy};
+ghost use Rattle.rendezvous_core.specs.Turns.{turned_of};
 ghost use Rattle.rendezvous_core.specs.Worlds.{start, step, with_event, is_complete, last_image, MakesNoEvent};
 
 use crate::beginning::first_programs;
@@ -13,6 +14,7 @@ use crate::lying::Lying;
 use crate::starting::{start_fault, start_registers};
 use crate::stepped::Stepped;
 use crate::turn::step_of;
+use crate::turned::Turned;
 use crate::words::Words;
 use cpu_program::Program;
 use cpu_table::Setup;
@@ -86,22 +88,23 @@ impl World {
         }
     }
 
-    fn step_actor(&mut self, actor: u16) -> Stepped
-        requires { actor ≤ self.old.processors }
-        ensures stepped { result ≡ (step self.old.world actor).0 }
-        ensures world { self.new ≡ record self.old { world = (step self.old.world actor).1 } }
+    /// One step of an actor, as [`World::step`] makes it, whose event is kept and not handed back.
+    pub(crate) fn advance(&mut self, actor: u16) -> Turned
+        requires actor_in { actor ≤ self.old.processors }
+        requires has_room { length self.old.events < self.old.room }
+        ensures turned { result ≡ turned_of (step self.old.world actor).0 }
+        ensures world { self.new.world ≡ (step self.old.world actor).1 }
+        ensures events { self.new.events ≡ self.old.events ++ with_event (step self.old.world actor).0 [] }
+        ensures room { self.new.room ≡ self.old.room }
+        ensures processors { self.new.processors ≡ self.old.processors }
     {
-        step_of(&mut self.words, &mut self.lying, &mut self.programs, actor)
-    }
-
-    // Keeps the event of a step.
-    fn keep(&mut self, stepped: &Stepped)
-        requires { length self.old.events < self.old.room }
-        ensures { self.new ≡ record self.old { events = self.old.events ++ with_event stepped.now [] } }
-    {
-        if let Stepped::Event(event) = stepped {
-            self.events.push_reserved(*event);
-        }
+        step_of(
+            &mut self.words,
+            &mut self.lying,
+            &mut self.programs,
+            actor,
+            &mut self.events,
+        )
     }
 
     /// One step of an actor: a processor by its number, or the chipset, which has the number of processors. It takes no
@@ -116,9 +119,8 @@ impl World {
         ensures processors { self.new.processors ≡ self.old.processors }
         ensures stays { MakesNoEvent result → self.new ≡ self.old }
     {
-        let stepped = self.step_actor(actor);
-        self.keep(&stepped);
-        stepped
+        let turned = self.advance(actor);
+        turned.stepped(&self.events)
     }
 
     /// The events so far, in their order.

@@ -1,5 +1,5 @@
 -- Each step keeps what the replay comes to.
-use Rattle.std.proofs.Common.{◌≤◌, ◌∙◌, length, arith}
+use Rattle.std.proofs.Common.{◌≤◌, ◌∙◌, length, refl, arith}
 use Rattle.rendezvous_core.proofs.ReplayLemmas.{step_events, step_world, step_few, end_events, end_world}
 use Rattle.rendezvous_core.proofs.schedule.play.Goals as goal
 
@@ -8,11 +8,11 @@ loop-actor-preserved c =
     let i = c.loop-actor.actor-index in
     let so_far = c.loop-actor.invariant in
     record {
-      processors = c.step.ensures.processors ∙ so_far.processors;
-      events = step_events _ _ _ _ c.args.schedule.now i _ c.step.result c.loop-actor-test.true c.step.ensures.stepped c.step.ensures.world c.step.ensures.events ∙ so_far.events;
-      world = step_world _ _ c.args.schedule.now i _ c.loop-actor-test.true c.step.ensures.world ∙ so_far.world;
-      few = step_few _ _ (length c.args.world.events) c.step.result i so_far.few c.step.ensures.events;
-      room = c.step.ensures.room ∙ so_far.room;
+      processors = c.advance.ensures.processors ∙ so_far.processors;
+      events = step_events _ _ _ _ c.args.schedule.now i _ _ c.loop-actor-test.true refl c.advance.ensures.world c.advance.ensures.events ∙ so_far.events;
+      world = step_world _ _ c.args.schedule.now i _ c.loop-actor-test.true c.advance.ensures.world ∙ so_far.world;
+      few = step_few _ _ (length c.args.world.events) _ i so_far.few c.advance.ensures.events;
+      room = c.advance.ensures.room ∙ so_far.room;
     }
 
 pub returns-clause-events : goal.returns-clause-events
