@@ -2,8 +2,8 @@
 use Rattle.rendezvous_core.proofs.ActorLemmas.{number_at, stepped_world}
 use Rattle.rendezvous_core.proofs.turn.step_of.Goals as goal
 
-pub take_turn-requires : goal.take_turn-requires
-take_turn-requires c = number_at c.args.programs.now c.args.me c.from.result c.index-programs-from.result c.from.ensures c.requires.me_in c.requires.number
+pub take_turn-requires-clause-number : goal.take_turn-requires-clause-number
+take_turn-requires-clause-number c = number_at c.args.programs.now c.args.me c.from.result c.index-programs-from.result c.from.ensures c.requires.me_in c.requires.number
 
 pub returns-clause-world : goal.returns-clause-world
 returns-clause-world c =

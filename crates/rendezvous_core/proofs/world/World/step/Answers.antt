@@ -1,6 +1,7 @@
 -- The event was kept last, and it is handed back.
 use Rattle.std.proofs.Common.{◌∙◌, ◌++◌, [], sym, ap, subst}
 use Rattle.rendezvous_core.specs.declared.stepped.Stepped.{Stepped}
+use Rattle.rendezvous_core.specs.Turns.{stepped_from}
 use Rattle.rendezvous_core.specs.Worlds.{step, with_event, MakesNoEvent}
 use Rattle.rendezvous_core.proofs.TurnLemmas.{stepped_again, stays_without}
 use Rattle.rendezvous_core.proofs.world.World.step.Goals as goal
@@ -8,6 +9,7 @@ use Rattle.rendezvous_core.proofs.world.World.step.Goals as goal
 pub returns-clause-stepped : goal.returns-clause-stepped
 returns-clause-stepped c =
     c.stepped.ensures
+    ∙ ap (stepped_from c.advance-turned.result) c.deref.ensures.value
     ∙ stepped_again (step c.args.self.now.world c.args.actor).0 c.args.self.now.events _ _ c.advance-turned.ensures.turned c.advance-turned.ensures.events
 
 pub returns-clause-events : goal.returns-clause-events
