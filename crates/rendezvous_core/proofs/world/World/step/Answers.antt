@@ -2,7 +2,7 @@
 use Rattle.std.proofs.Common.{◌∙◌, ◌++◌, [], sym, ap, subst}
 use Rattle.rendezvous_core.specs.declared.stepped.Stepped.{Stepped}
 use Rattle.rendezvous_core.specs.Turns.{stepped_from}
-use Rattle.rendezvous_core.specs.Worlds.{step, with_event, MakesNoEvent}
+use Rattle.rendezvous_core.specs.Worlds.{Replay, step, with_event, MakesNoEvent}
 use Rattle.rendezvous_core.proofs.TurnLemmas.{stepped_again, stays_without}
 use Rattle.rendezvous_core.proofs.world.World.step.Goals as goal
 
@@ -10,6 +10,7 @@ pub returns-clause-stepped : goal.returns-clause-stepped
 returns-clause-stepped c =
     c.stepped.ensures
     ∙ ap (stepped_from c.advance-turned.result) c.deref.ensures.value
+    ∙ ap (λ (r : Replay). stepped_from c.advance-turned.result r.events) c.self.view_is
     ∙ stepped_again (step c.args.self.now.world c.args.actor).0 c.args.self.now.events _ _ c.advance-turned.ensures.turned c.advance-turned.ensures.events
 
 pub returns-clause-events : goal.returns-clause-events
