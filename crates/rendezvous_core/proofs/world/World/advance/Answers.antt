@@ -4,9 +4,8 @@ use Rattle.std.proofs.lemmas.List.{with_items_is}
 use Rattle.std.specs.Prelude.{slice_get, IsSomeAnd}
 use Rattle.cpu_program.specs.Actors.{Actor}
 use Rattle.rendezvous_core.specs.WorldInside.{HasNumber, AreActors}
-use Rattle.rendezvous_core.specs.Worlds.{Replay, World}
+use Rattle.rendezvous_core.specs.Worlds.{Replay}
 use Rattle.rendezvous_core.proofs.ActorLemmas.{kept_actors}
-use Rattle.rendezvous_core.proofs.TurnLemmas.{events_same}
 use Rattle.rendezvous_core.proofs.world.World.advance.Goals as goal
 
 pub step_of-requires-clause-number : goal.step_of-requires-clause-number
