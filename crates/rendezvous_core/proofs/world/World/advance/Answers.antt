@@ -1,5 +1,5 @@
 -- A step takes and brings no actor, and there is room for its event.
-use Rattle.std.proofs.Common.{◌∙◌, List, length, sym, subst, ap, arith}
+use Rattle.std.proofs.Common.{List, length, sym, subst, ap, arith}
 use Rattle.std.proofs.lemmas.List.{with_items_is}
 use Rattle.std.specs.Prelude.{slice_get, IsSomeAnd}
 use Rattle.cpu_program.specs.Actors.{Actor}
