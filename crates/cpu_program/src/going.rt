@@ -134,19 +134,18 @@ impl Processor {
         }
     }
 
-    /// The session is told what its access found, and tells its next need.
-    pub fn take_serving(&mut self, found: u32) -> Label
+    /// The session is told what its access found, and tells its next need. What the event says takes the place of `label`.
+    pub fn take_serving(&mut self, found: u32, label: &mut Label)
         requires ready { IsReady self.old }
         requires told { IsServing self.old.identity.setup.processors self.old.chair self.old.held.desks }
-        ensures label { result ≡ (taken_serving self.old.chair (processor_in self.old) found).label }
+        ensures said { label.new ≡ (taken_serving self.old.chair (processor_in self.old) found).label }
         ensures after { processor_in self.new ≡ (taken_serving self.old.chair (processor_in self.old) found).after }
     {
         match &mut self.chair {
-            None => Label::Silent,
+            None => *label = Label::Silent,
             Some(server) => {
-                let label = server.answer(found, &mut self.held);
+                server.answer_on(found, &mut self.held, label);
                 self.serve_on();
-                label
             }
         }
     }

@@ -138,7 +138,8 @@ impl Program {
     {
         let (word, access) = wanted(self.state.want());
         let actor = self.state.number();
-        let label = self.conclude(applied);
+        let mut label = Label::Silent;
+        self.conclude(applied, &mut label);
         Event {
             actor,
             word,
@@ -148,13 +149,13 @@ impl Program {
         }
     }
 
-    /// The same, of which it gives what the event says.
-    pub fn conclude(&mut self, applied: Applied) -> Label
+    /// The same. What the event says takes the place of `label`.
+    pub fn conclude(&mut self, applied: Applied, label: &mut Label)
         requires { Accepts (want_of self.old) applied }
-        ensures label { result ≡ (taken self.old (found_of applied)).label }
+        ensures said { label.new ≡ (taken self.old (found_of applied)).label }
         ensures after { self.new ≡ (taken self.old (found_of applied)).after }
     {
-        self.state.take(applied)
+        self.state.take(applied, label);
     }
 
     /// The image of the last resume, or the first image of a processor that never resumed; none for the chipset.

@@ -1,6 +1,6 @@
 ghost use Rattle.std.specs.Prelude.{◌≡◌, ◌<◌};
 ghost use Rattle.cpu_table.specs.Data.{data_of};
-ghost use Rattle.sync_words.specs.declared.label.Label.TheVariants.{Silent, Off, Collect, Done};
+ghost use Rattle.sync_words.specs.declared.label.Label.TheVariants.{Off, Collect, Depart, Done};
 ghost use Rattle.sync_words.specs.declared.row.Row.TheVariants as row;
 ghost use Rattle.cpu_program.specs.declared.part.Part.TheVariants as gone;
 ghost use Rattle.cpu_program.specs.Bounds.{IsReady, HasImages, IsRow};
@@ -18,116 +18,121 @@ use sync_words::{DELIVERABLE, Label, Row};
 
 // The rows between the parts.
 impl Processor {
-    /// Goes on after the access of this row found a number, and gives what the event says. The time is at most proportional to the
-    /// number of processors.
-    pub fn take_at(&mut self, row: Row, found: u32) -> Label
+    /// Goes on after the access of this row found a number. What the event says takes the place of `label`. The time is at most
+    /// proportional to the number of processors.
+    pub fn take_at(&mut self, row: Row, found: u32, label: &mut Label)
         requires ready { IsReady self.old }
         requires images { HasImages self.old }
         requires within { IsRow row (data_of self.old.identity.setup) self.old.visits }
-        ensures label { result ≡ (taken_at row (processor_in self.old) found).label }
+        ensures said { label.new ≡ (taken_at row (processor_in self.old) found).label }
         ensures after { processor_in self.new ≡ (taken_at row (processor_in self.old) found).after }
     {
+        *label = Label::Silent;
         match row {
-            Row::AwaitSmi => self.take_smi(found),
-            Row::SwitchOff => self.turn_off(),
-            Row::MarkInside => self.says(Label::Silent, Row::TakeSource),
-            Row::TakeSource => self.take_source(found),
-            Row::CollectJob(cpu) => self.collect_job(cpu),
-            Row::LeaveInside => self.leave_inside(),
+            Row::AwaitSmi => self.take_smi(found, label),
+            Row::SwitchOff => self.turn_off(label),
+            Row::MarkInside => self.go_to(Row::TakeSource),
+            Row::TakeSource => self.take_source(found, label),
+            Row::CollectJob(cpu) => self.collect_job(cpu, label),
+            Row::LeaveInside => self.leave_inside(label),
             Row::AwaitRelease => self.take_desk_back(),
-            Row::GiveDeskBack => self.tell_of_job(),
-            Row::TellReleased => self.says(Label::Silent, Row::AwaitDismissal),
-            Row::AwaitDismissal => self.says(Label::Silent, Row::WithdrawReport),
-            Row::WithdrawReport => self.says(Label::Depart, Row::TellDismissed),
-            Row::TellDismissed => self.says(Label::Silent, Row::AwaitSessionEnd),
-            Row::AwaitSessionEnd => self.says(Label::Silent, Row::ClearSignal),
-            Row::ClearSignal => self.resume(),
-            _ => Label::Silent,
+            Row::GiveDeskBack => self.tell_of_job(label),
+            Row::TellReleased => self.go_to(Row::AwaitDismissal),
+            Row::AwaitDismissal => self.go_to(Row::WithdrawReport),
+            Row::WithdrawReport => self.depart(label),
+            Row::TellDismissed => self.go_to(Row::AwaitSessionEnd),
+            Row::AwaitSessionEnd => self.go_to(Row::ClearSignal),
+            Row::ClearSignal => *label = self.resume(),
+            _ => {}
         }
     }
 
     // A deliverable signal begins a visit; the other one that is accepted says that the processor is off.
-    fn take_smi(&mut self, found: u32) -> Label
+    fn take_smi(&mut self, found: u32, label: &mut Label)
         requires ready { IsReady self.old }
         requires images { HasImages self.old }
         requires left { self.old.visits < self.old.identity.setup.visits }
-        ensures label { result ≡ (taken_at row.AwaitSmi (processor_in self.old) found).label }
+        ensures said { label.new ≡ (taken_at row.AwaitSmi (processor_in self.old) found).label }
         ensures after { processor_in self.new ≡ (taken_at row.AwaitSmi (processor_in self.old) found).after }
     {
         if found == DELIVERABLE {
             self.enter();
-            Label::Enter
+            *label = Label::Enter;
         } else {
-            self.turn_off()
+            self.turn_off(label);
         }
     }
 
-    fn turn_off(&mut self) -> Label
-        ensures label { result ≡ Off }
+    fn turn_off(&mut self, label: &mut Label)
+        ensures said { label.new ≡ Off }
         ensures after { processor_in self.new ≡ record (processor_in self.old) { part = gone.Off } }
     {
         self.part = Part::Off;
-        Label::Off
+        *label = Label::Off;
     }
 
     // The wave that was found is served.
-    fn take_source(&mut self, found: u32) -> Label
+    fn take_source(&mut self, found: u32, label: &mut Label)
         requires { IsReady self.old }
-        ensures label { result ≡ (taken_at row.TakeSource (processor_in self.old) found).label }
+        ensures said { label.new ≡ (taken_at row.TakeSource (processor_in self.old) found).label }
         ensures after { processor_in self.new ≡ (taken_at row.TakeSource (processor_in self.old) found).after }
     {
         self.wave = found;
         self.at_row(after_source(self.identity.setup.mode));
-        Label::Served(found)
+        *label = Label::Served(found);
     }
 
     // The job of a processor is taken off its desk, and the next one is collected.
-    fn collect_job(&mut self, cpu: u16) -> Label
+    fn collect_job(&mut self, cpu: u16, label: &mut Label)
         requires ready { IsReady self.old }
         requires within { cpu < self.old.identity.setup.processors }
-        ensures label { result ≡ Collect cpu }
+        ensures said { label.new ≡ Collect cpu }
         ensures after { processor_in self.new ≡ (taken_at (row.CollectJob cpu) (processor_in self.old) 0).after }
     {
         let _job = self.held.desks.take_job(cpu);
         self.go_on(self.jobs_row(cpu + 1));
-        Label::Collect(cpu)
+        *label = Label::Collect(cpu);
     }
 
-    fn leave_inside(&mut self) -> Label
+    fn leave_inside(&mut self, label: &mut Label)
         requires { IsReady self.old }
-        ensures label { result ≡ Done }
+        ensures said { label.new ≡ Done }
         ensures after { processor_in self.new ≡ begin_exit (processor_in self.old) }
     {
         self.begin_exit();
-        Label::Done
+        *label = Label::Done;
     }
 
     // An AP has its desk back, with a job or without one.
-    fn take_desk_back(&mut self) -> Label
-        ensures label { result ≡ Silent }
-        ensures after { processor_in self.new ≡ (taken_at row.AwaitRelease (processor_in self.old) 0).after }
+    fn take_desk_back(&mut self)
+        ensures { processor_in self.new ≡ (taken_at row.AwaitRelease (processor_in self.old) 0).after }
     {
-        let next = work_row(self.has_work());
-        self.says(Label::Silent, next)
+        self.go_to(work_row(self.has_work()));
     }
 
     // The event tells of the job that was run.
-    fn tell_of_job(&mut self) -> Label
-        ensures label { result ≡ ran_label self.old.ran }
+    fn tell_of_job(&mut self, label: &mut Label)
+        ensures said { label.new ≡ ran_label self.old.ran }
         ensures after { processor_in self.new ≡ (taken_at row.GiveDeskBack (processor_in self.old) 0).after }
     {
-        let label = ran_label(self.ran);
+        *label = ran_label(&self.ran);
         self.ran = None;
-        self.says(label, Row::AwaitRelease)
+        self.go_to(Row::AwaitRelease);
     }
 
-    // The event says this, and the processor goes on at a row.
-    fn says(&mut self, label: Label, next: Row) -> Label
-        ensures label { result ≡ label }
-        ensures after { processor_in self.new ≡ between next (processor_in self.old) }
+    fn depart(&mut self, label: &mut Label)
+        ensures said { label.new ≡ Depart }
+        ensures after { processor_in self.new ≡ between row.TellDismissed (processor_in self.old) }
+    {
+        *label = Label::Depart;
+        self.go_to(Row::TellDismissed);
+    }
+
+    // The processor goes on at a row.
+    fn go_to(&mut self, next: Row)
+        ensures { processor_in self.new ≡ between next (processor_in self.old) }
     {
         self.part = Part::Between(next);
-        label
     }
 
     // Is there a job to run on the processor's own desk?
@@ -161,8 +166,8 @@ fn can_run_on(setup: &Setup, job: &Option<Job>) -> bool
     }
 }
 
-fn ran_label(job: Option<Job>) -> Label
-    ensures { result ≡ ran_label job }
+fn ran_label(job: &Option<Job>) -> Label
+    ensures { result ≡ ran_label job.now }
 {
     match job {
         None => Label::Silent,

@@ -103,16 +103,16 @@ impl State {
         }
     }
 
-    /// Goes on after the wanted access was accepted, and gives what the event says.
-    pub fn take(&mut self, applied: Applied) -> Label
+    /// Goes on after the wanted access was accepted. What the event says takes the place of `label`.
+    pub fn take(&mut self, applied: Applied, label: &mut Label)
         requires actor { IsActor (actor_in self.old) }
         requires accepted { Accepts (want_of (actor_in self.old)) applied }
-        ensures label { result ≡ (taken (actor_in self.old) (found_of applied)).label }
+        ensures said { label.new ≡ (taken (actor_in self.old) (found_of applied)).label }
         ensures after { actor_in self.new ≡ (taken (actor_in self.old) (found_of applied)).after }
     {
         match self {
-            State::Processor(processor) => processor.take(applied),
-            State::Chipset(chipset) => chipset.take(applied.found()),
+            State::Processor(processor) => processor.take(applied, label),
+            State::Chipset(chipset) => *label = chipset.take(applied.found()),
         }
     }
 }

@@ -96,7 +96,7 @@ impl Server {
         ensures row { self.new ≡ told_on held.old.desks self.old }
         ensures handed { held.new.desks ≡ handed_as self.new.told held.old.desks }
     {
-        self.told = row_of(&self.progress, &held.desks);
+        row_of(&self.progress, &held.desks, &mut self.told);
         give_by(&self.told, &mut held.desks);
         need_of(&self.told)
     }
@@ -114,9 +114,27 @@ impl Server {
         ensures after { self.new ≡ answered (move_as self.old found held.old.desks) held.old.desks self.old }
         ensures desks { held.new.desks ≡ kept_as self.old.told found held.old.desks }
     {
-        let told = self.told;
+        let mut label = Label::Silent;
+        self.answer_on(found, held, &mut label);
+        label
+    }
+
+    /// The same, where the label takes the place of another one.
+    pub fn answer_on(&mut self, found: u32, held: &mut Held, label: &mut Label)
+        requires told { HasTold self.old }
+        requires at_hand { IsAtHand self.old.told held.old.desks }
+        ensures said { label.new ≡ label_of (move_as self.old found held.old.desks) }
+        ensures after { self.new ≡ answered (move_as self.old found held.old.desks) held.old.desks self.old }
+        ensures desks { held.new.desks ≡ kept_as self.old.told found held.old.desks }
+    {
+        answer(
+            &mut self.progress,
+            &self.told,
+            found,
+            &mut held.desks,
+            label,
+        );
         self.told = Row::Finished;
-        answer(&mut self.progress, &told, found, &mut held.desks)
     }
 
     /// The access that is wanted while a need is unanswered. `Finished` before the first `next` of a session, after an answer

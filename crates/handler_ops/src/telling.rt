@@ -115,79 +115,82 @@ fn reach(progress: &Progress, held: &Desks, c: u16) -> Reach
     }
 }
 
-fn reading(progress: &Progress, held: &Desks, cpu: u16, reg: u32, width: u8) -> Row
-    ensures { result ≡ reading_row (setting_in progress.now) held.now progress.now.state cpu reg width }
+fn reading(progress: &Progress, held: &Desks, cpu: u16, reg: u32, width: u8, told: &mut Row)
+    ensures { told.new ≡ reading_row (setting_in progress.now) held.now progress.now.state cpu reg width }
 {
     match reach(progress, held, cpu) {
-        Reach::Outside => Row::Looking(read_label(cpu, reg, width, 0, Status::InvalidParameter)),
-        Reach::AtHand => Row::Reading { cpu, reg, width },
-        Reach::Working => Row::ClaimingJob(cpu, read_label(cpu, reg, width, 0, Status::NotReady)),
-        Reach::Elsewhere => Row::ClaimingDesk(
-            cpu,
-            read_label(
+        Reach::Outside => {
+            *told = Row::Looking(read_label(cpu, reg, width, 0, Status::InvalidParameter));
+        }
+        Reach::AtHand => *told = Row::Reading { cpu, reg, width },
+        Reach::Working => {
+            *told = Row::ClaimingJob(cpu, read_label(cpu, reg, width, 0, Status::NotReady));
+        }
+        Reach::Elsewhere => {
+            let status = absent_read(progress.id_of(cpu), reg, width);
+            *told = Row::ClaimingDesk(cpu, read_label(cpu, reg, width, 0, status));
+        }
+    }
+}
+
+fn writing(
+    progress: &Progress,
+    held: &Desks,
+    cpu: u16,
+    reg: u32,
+    width: u8,
+    value: u64,
+    told: &mut Row,
+)
+    ensures { told.new ≡ writing_row (setting_in progress.now) held.now progress.now.state cpu reg width value }
+{
+    match reach(progress, held, cpu) {
+        Reach::Outside => {
+            *told = Row::Looking(write_label(cpu, reg, width, value, Status::InvalidParameter));
+        }
+        Reach::AtHand => {
+            *told = Row::Writing {
                 cpu,
                 reg,
                 width,
-                0,
-                absent_read(progress.id_of(cpu), reg, width),
-            ),
-        ),
+                value,
+            };
+        }
+        Reach::Working => {
+            *told = Row::ClaimingJob(cpu, write_label(cpu, reg, width, value, Status::NotReady));
+        }
+        Reach::Elsewhere => {
+            let status = absent_write(reg, width, value);
+            *told = Row::ClaimingDesk(cpu, write_label(cpu, reg, width, value, status));
+        }
     }
 }
 
-fn writing(progress: &Progress, held: &Desks, cpu: u16, reg: u32, width: u8, value: u64) -> Row
-    ensures { result ≡ writing_row (setting_in progress.now) held.now progress.now.state cpu reg width value }
-{
-    match reach(progress, held, cpu) {
-        Reach::Outside => Row::Looking(write_label(
-            cpu,
-            reg,
-            width,
-            value,
-            Status::InvalidParameter,
-        )),
-        Reach::AtHand => Row::Writing {
-            cpu,
-            reg,
-            width,
-            value,
-        },
-        Reach::Working => Row::ClaimingJob(
-            cpu,
-            write_label(cpu, reg, width, value, Status::NotReady),
-        ),
-        Reach::Elsewhere => Row::ClaimingDesk(
-            cpu,
-            write_label(cpu, reg, width, value, absent_write(reg, width, value)),
-        ),
-    }
-}
-
-// The start rule, where no cause refuses.
+// The start rule, where no cause refuses. The row that collects a job before it is there, and stays where there is one.
 fn started(
     progress: &Progress,
     held: &Desks,
     cpu: u16,
     place: Option<u16>,
     arg: u64,
-    collect: Row,
-) -> Row
+    told: &mut Row,
+)
     requires { progress.now.state.given < 4294967295 }
-    ensures { result ≡ start_row None (has_job (seat progress.now.state cpu)) (is_held held.now cpu) progress.now.marked cpu
-        collect (say.Start cpu (progress.now.state.given + 1) (unwrap_or place 0) arg) }
+    ensures { told.new ≡ start_row None (has_job (seat progress.now.state cpu)) (is_held held.now cpu) progress.now.marked cpu
+        told.old (say.Start cpu (progress.now.state.given + 1) (unwrap_or place 0) arg) }
 {
     if has_job(progress.state.seat(cpu)) {
-        collect
+        // The row that collects it is there.
     } else if !held.is_held(cpu) {
-        Row::ClaimingDesk(
+        *told = Row::ClaimingDesk(
             cpu,
             Label::Refuse {
                 cpu,
                 cause: StartRefusal::Absent,
             },
-        )
+        );
     } else if progress.marked {
-        Row::Raising(
+        *told = Row::Raising(
             cpu,
             Label::Start {
                 cpu,
@@ -195,9 +198,9 @@ fn started(
                 procedure: place.unwrap_or(0),
                 arg,
             },
-        )
+        );
     } else {
-        Row::Putting(cpu)
+        *told = Row::Putting(cpu);
     }
 }
 
@@ -208,204 +211,215 @@ fn starting(
     cpu: u16,
     place: Option<u16>,
     arg: u64,
-    collect: Row,
-) -> Row
+    told: &mut Row,
+)
     requires { progress.now.state.given < 4294967295 }
-    ensures { result ≡ starting_row (setting_in progress.now) held.now progress.now.state progress.now.marked with_token cpu place arg collect }
+    ensures { told.new ≡ starting_row (setting_in progress.now) held.now progress.now.state progress.now.marked with_token cpu place arg told.old }
 {
     match progress.first_cause(with_token, cpu, place) {
-        Some(cause) => Row::Looking(Label::Refuse { cpu, cause }),
-        None => started(progress, held, cpu, place, arg, collect),
+        Some(cause) => *told = Row::Looking(Label::Refuse { cpu, cause }),
+        None => started(progress, held, cpu, place, arg, told),
     }
 }
 
-fn checking(progress: &Progress, job: u64) -> Row
-    ensures { result ≡ checking_row (token_of progress.now.state job) job }
+fn checking(progress: &Progress, job: u64, told: &mut Row)
+    ensures { told.new ≡ checking_row (token_of progress.now.state job) job }
 {
     match progress.state.token_of(job) {
-        TokenState::NotOut => Row::Looking(Label::Check {
-            job,
-            status: Status::InvalidParameter,
-        }),
-        TokenState::Uncollected(c) => Row::ClaimingJob(
-            c,
-            Label::Check {
+        TokenState::NotOut => {
+            *told = Row::Looking(Label::Check {
                 job,
-                status: Status::NotReady,
-            },
-        ),
-        TokenState::Collected(_) => Row::Looking(Label::Check {
-            job,
-            status: Status::Success,
-        }),
+                status: Status::InvalidParameter,
+            });
+        }
+        TokenState::Uncollected(c) => {
+            *told = Row::ClaimingJob(
+                c,
+                Label::Check {
+                    job,
+                    status: Status::NotReady,
+                },
+            );
+        }
+        TokenState::Collected(_) => {
+            *told = Row::Looking(Label::Check {
+                job,
+                status: Status::Success,
+            });
+        }
     }
 }
 
-fn waiting(progress: &Progress, job: u64) -> Row
-    ensures { result ≡ waiting_row (token_of progress.now.state job) job }
+fn waiting(progress: &Progress, job: u64, told: &mut Row)
+    ensures { told.new ≡ waiting_row (token_of progress.now.state job) job }
 {
     match progress.state.token_of(job) {
-        TokenState::NotOut => Row::Looking(Label::Wait {
-            job,
-            result_value: 0,
-            status: Status::InvalidParameter,
-        }),
-        TokenState::Uncollected(c) => Row::AwaitingJob(c),
-        TokenState::Collected(token) => Row::Looking(Label::Wait {
-            job,
-            result_value: token.result,
-            status: token.status,
-        }),
+        TokenState::NotOut => {
+            *told = Row::Looking(Label::Wait {
+                job,
+                result_value: 0,
+                status: Status::InvalidParameter,
+            });
+        }
+        TokenState::Uncollected(c) => *told = Row::AwaitingJob(c),
+        TokenState::Collected(token) => {
+            *told = Row::Looking(Label::Wait {
+                job,
+                result_value: token.result,
+                status: token.status,
+            });
+        }
     }
 }
 
-fn registering(progress: &Progress, handler: u16) -> Label
-    ensures { result ≡ register_label (is_full progress.now.state.registrations) handler progress.now.state.registrations.last }
+#[inline(never)]
+fn register_row(progress: &Progress, handler: u16, told: &mut Row)
+    ensures { told.new ≡ row.Looking (register_label (is_full progress.now.state.registrations) handler progress.now.state.registrations.last) }
 {
     if progress.state.registrations().is_full() {
-        Label::Register {
+        *told = Row::Looking(Label::Register {
             handler,
             serial: 0,
             status: Status::OutOfResources,
-        }
+        });
     } else {
-        Label::Register {
+        *told = Row::Looking(Label::Register {
             handler,
             serial: progress.state.registrations().last() + 1,
             status: Status::Success,
-        }
+        });
     }
 }
 
-fn unregistering(progress: &Progress, handle: Operand) -> Label
-    ensures { result ≡ say.Unregister (number progress.now.state handle) (unregister_status (is_live (number progress.now.state handle) progress.now.state.registrations)) }
+#[inline(never)]
+fn unregister_row(progress: &Progress, handle: Operand, told: &mut Row)
+    ensures { told.new ≡ row.Looking (say.Unregister (number progress.now.state handle) (unregister_status (is_live (number progress.now.state handle) progress.now.state.registrations))) }
 {
     let handle = progress.state.number(handle);
-    if progress.state.is_live(handle) {
-        Label::Unregister {
-            handle,
-            status: Status::Success,
-        }
+    let status = if progress.state.is_live(handle) {
+        Status::Success
     } else {
-        Label::Unregister {
-            handle,
-            status: Status::NotFound,
-        }
-    }
+        Status::NotFound
+    };
+    *told = Row::Looking(Label::Unregister { handle, status });
 }
 
 // The row of a start that waits: the result of the processor's job goes to a variable.
-fn start_row(progress: &Progress, held: &Desks, cpu: u16, procedure: &Text, arg: Operand) -> Row
+#[inline(never)]
+fn start_row(
+    progress: &Progress,
+    held: &Desks,
+    cpu: u16,
+    procedure: &Text,
+    arg: Operand,
+    told: &mut Row,
+)
     requires { progress.now.state.given < 4294967295 }
-    ensures { result ≡ starting_row (setting_in progress.now) held.now progress.now.state progress.now.marked false cpu
+    ensures { told.new ≡ starting_row (setting_in progress.now) held.now progress.now.state progress.now.marked false cpu
         (procedure_place progress.now.setup.procedures procedure.now) (number progress.now.state arg) (row.AwaitingJob cpu) }
 {
-    starting(
-        progress,
-        held,
-        false,
-        cpu,
-        progress.place_of(procedure),
-        progress.state.number(arg),
-        Row::AwaitingJob(cpu),
-    )
+    let place = progress.place_of(procedure);
+    let arg = progress.state.number(arg);
+    *told = Row::AwaitingJob(cpu);
+    starting(progress, held, false, cpu, place, arg, told);
 }
 
 // The row of a start that gives a token.
-fn launch_row(progress: &Progress, held: &Desks, cpu: u16, procedure: &Text, arg: Operand) -> Row
+#[inline(never)]
+fn launch_row(
+    progress: &Progress,
+    held: &Desks,
+    cpu: u16,
+    procedure: &Text,
+    arg: Operand,
+    told: &mut Row,
+)
     requires { progress.now.state.given < 4294967295 }
-    ensures { result ≡ starting_row (setting_in progress.now) held.now progress.now.state progress.now.marked true cpu
+    ensures { told.new ≡ starting_row (setting_in progress.now) held.now progress.now.state progress.now.marked true cpu
         (procedure_place progress.now.setup.procedures procedure.now) (number progress.now.state arg) (row.ClaimingJob cpu (say.Refuse cpu cause.Busy)) }
 {
+    let place = progress.place_of(procedure);
+    let arg = progress.state.number(arg);
     let busy = Label::Refuse {
         cpu,
         cause: StartRefusal::Busy,
     };
-    starting(
-        progress,
-        held,
-        true,
-        cpu,
-        progress.place_of(procedure),
-        progress.state.number(arg),
-        Row::ClaimingJob(cpu, busy),
-    )
+    *told = Row::ClaimingJob(cpu, busy);
+    starting(progress, held, true, cpu, place, arg, told);
 }
 
-fn setting(progress: &Progress, variable: u8, value: Operand) -> Label
-    ensures { result ≡ say.Set variable (number progress.now.state value) }
+fn set_row(progress: &Progress, variable: u8, value: Operand, told: &mut Row)
+    ensures { told.new ≡ row.Looking (say.Set variable (number progress.now.state value)) }
 {
-    Label::Set {
+    *told = Row::Looking(Label::Set {
         variable,
         value: progress.state.number(value),
-    }
+    });
 }
 
 // The row of an operation that has begun, where so many levels are left.
-fn operation_row(progress: &Progress, held: &Desks, levels: usize, op: &OpDef) -> Row
+fn operation_row(progress: &Progress, held: &Desks, levels: usize, op: &OpDef, told: &mut Row)
     requires { progress.now.state.given < 4294967295 }
-    ensures { result ≡ operation_row (setting_in progress.now) held.now progress.now.state progress.now.marked levels op.now }
+    ensures { told.new ≡ operation_row (setting_in progress.now) held.now progress.now.state progress.now.marked levels op.now }
 {
     match op {
-        OpDef::Set { into, value } => Row::Looking(setting(progress, *into, *value)),
+        OpDef::Set { into, value } => set_row(progress, *into, *value, told),
         OpDef::Read {
             cpu,
             reg,
             width,
             ..
-        } => reading(progress, held, *cpu, *reg, *width),
+        } => reading(progress, held, *cpu, *reg, *width, told),
         OpDef::Write {
             cpu,
             reg,
             width,
             value,
-        } => writing(
-            progress,
-            held,
-            *cpu,
-            *reg,
-            *width,
-            progress.state.number(*value),
-        ),
+        } => {
+            let value = progress.state.number(*value);
+            writing(progress, held, *cpu, *reg, *width, value, told);
+        }
         OpDef::Start {
             cpu,
             procedure,
             arg,
             ..
-        } => start_row(progress, held, *cpu, procedure, *arg),
+        } => start_row(progress, held, *cpu, procedure, *arg, told),
         OpDef::Launch {
             cpu,
             procedure,
             arg,
             ..
-        } => launch_row(progress, held, *cpu, procedure, *arg),
-        OpDef::Check { token } => checking(progress, progress.state.number(*token)),
-        OpDef::Wait { token, .. } => waiting(progress, progress.state.number(*token)),
-        OpDef::Alloc { size, .. } => Row::Allocating(progress.state.number(*size)),
-        OpDef::Free { place } => Row::Freeing(progress.state.number(*place)),
-        OpDef::Register { handler, .. } => Row::Looking(registering(progress, *handler)),
-        OpDef::Unregister { handle } => Row::Looking(unregistering(progress, *handle)),
-        OpDef::Manage { kind } => Row::Looking(open_label(levels, *kind)),
+        } => launch_row(progress, held, *cpu, procedure, *arg, told),
+        OpDef::Check { token } => checking(progress, progress.state.number(*token), told),
+        OpDef::Wait { token, .. } => waiting(progress, progress.state.number(*token), told),
+        OpDef::Alloc { size, .. } => *told = Row::Allocating(progress.state.number(*size)),
+        OpDef::Free { place } => *told = Row::Freeing(progress.state.number(*place)),
+        OpDef::Register { handler, .. } => register_row(progress, *handler, told),
+        OpDef::Unregister { handle } => unregister_row(progress, *handle, told),
+        OpDef::Manage { kind } => *told = Row::Looking(open_label(levels, *kind)),
     }
 }
 
 // The row where a handler is being called.
 #[tactic(auto, using(crate::proofs::Dues::left_none, crate::proofs::Dues::left_some))]
-fn call_row(progress: &Progress, held: &Desks, called: Called) -> Row
+fn call_row(progress: &Progress, held: &Desks, called: Called, told: &mut Row)
     requires { progress.now.state.given < 4294967295 }
-    ensures { result ≡ due_row (setting_in progress.now) held.now progress.now.state progress.now.marked
+    ensures { told.new ≡ due_row (setting_in progress.now) held.now progress.now.state progress.now.marked
         (due_in_call (program_in progress.now) (levels_left (place_in progress.now).walks) called.handler (call_of (program_in progress.now) called).ops progress.now.state.left) }
 {
     match progress.operation(called) {
-        None => Row::Looking(Label::Return {
-            handler: called.handler,
-            status: progress.status_of(called.handler),
-        }),
+        None => {
+            *told = Row::Looking(Label::Return {
+                handler: called.handler,
+                status: progress.status_of(called.handler),
+            });
+        }
         Some(op) => {
             if progress.state.left() == 0 {
-                Row::Looking(Label::Spent)
+                *told = Row::Looking(Label::Spent);
             } else {
-                operation_row(progress, held, progress.levels(), op)
+                operation_row(progress, held, progress.levels(), op, told);
             }
         }
     }
@@ -413,16 +427,16 @@ fn call_row(progress: &Progress, held: &Desks, called: Called) -> Row
 
 // The row where a walk is between two calls.
 #[tactic(auto, using(crate::proofs::Dues::due_turns_is, crate::proofs::Dues::left_none, crate::proofs::Dues::left_some))]
-fn turn_row(progress: &Progress, held: &Desks, manage: Manage) -> Row
-    ensures { result ≡ due_row (setting_in progress.now) held.now progress.now.state progress.now.marked (due_turns manage.kind (turns_of manage) manage.running progress.now.state.registrations progress.now.state.left) }
+fn turn_row(progress: &Progress, held: &Desks, manage: Manage, told: &mut Row)
+    ensures { told.new ≡ due_row (setting_in progress.now) held.now progress.now.state progress.now.marked (due_turns manage.kind (turns_of manage) manage.running progress.now.state.registrations progress.now.state.left) }
 {
     match next_handler(manage, progress.state.registrations()) {
-        None => Row::Looking(Label::Answer(manage.end())),
+        None => *told = Row::Looking(Label::Answer(manage.end())),
         Some(handler) => {
             if progress.state.left() == 0 {
-                Row::Looking(Label::Spent)
+                *told = Row::Looking(Label::Spent);
             } else {
-                Row::Looking(Label::Call(handler))
+                *told = Row::Looking(Label::Call(handler));
             }
         }
     }
@@ -430,48 +444,49 @@ fn turn_row(progress: &Progress, held: &Desks, manage: Manage) -> Row
 
 // The row where no walk is open.
 #[tactic(auto, using(crate::proofs::Dues::left_none, crate::proofs::Dues::left_some))]
-fn entry_row(progress: &Progress, held: &Desks) -> Row
-    ensures { result ≡ due_row (setting_in progress.now) held.now progress.now.state progress.now.marked (due_in_walks (program_in progress.now) (place_in progress.now).kinds [] progress.now.state.registrations progress.now.state.left) }
+#[inline(never)]
+fn entry_row(progress: &Progress, held: &Desks, told: &mut Row)
+    ensures { told.new ≡ due_row (setting_in progress.now) held.now progress.now.state progress.now.marked (due_in_walks (program_in progress.now) (place_in progress.now).kinds [] progress.now.state.registrations progress.now.state.left) }
 {
     match progress.next_kind() {
-        None => Row::Finished,
+        None => *told = Row::Finished,
         Some(kind) => {
             if progress.state.left() == 0 {
-                Row::Looking(Label::Spent)
+                *told = Row::Looking(Label::Spent);
             } else {
-                Row::Looking(Label::Manage(kind))
+                *told = Row::Looking(Label::Manage(kind));
             }
         }
     }
 }
 
 // The row where nothing that was begun is still to be said.
-fn open_row(progress: &Progress, held: &Desks) -> Row
+fn open_row(progress: &Progress, held: &Desks, told: &mut Row)
     requires { progress.now.state.given < 4294967295 }
-    ensures { result ≡ due_row (setting_in progress.now) held.now progress.now.state progress.now.marked
+    ensures { told.new ≡ due_row (setting_in progress.now) held.now progress.now.state progress.now.marked
         (due_in_walks (program_in progress.now) (place_in progress.now).kinds (place_in progress.now).walks progress.now.state.registrations progress.now.state.left) }
 {
     match progress.top() {
-        None => entry_row(progress, held),
+        None => entry_row(progress, held, told),
         Some(walk) => match walk.called {
-            None => turn_row(progress, held, walk.manage),
-            Some(called) => call_row(progress, held, called),
+            None => turn_row(progress, held, walk.manage, told),
+            Some(called) => call_row(progress, held, called, told),
         },
     }
 }
 
 // The row of the course, with these desks held.
-pub fn row_of(progress: &Progress, held: &Desks) -> Row
+pub fn row_of(progress: &Progress, held: &Desks, told: &mut Row)
     requires { progress.now.state.given < 4294967295 }
-    ensures { result ≡ row_of (setting_in progress.now) held.now (course_in progress.now) }
+    ensures { told.new ≡ row_of (setting_in progress.now) held.now (course_in progress.now) }
 {
     match progress.pending {
-        Pending::Nothing => open_row(progress, held),
-        Pending::First(wave) => Row::Looking(Label::Begin(wave)),
-        Pending::Awaited { cpu, .. } => Row::AwaitingJob(cpu),
+        Pending::Nothing => open_row(progress, held, told),
+        Pending::First(wave) => *told = Row::Looking(Label::Begin(wave)),
+        Pending::Awaited { cpu, .. } => *told = Row::AwaitingJob(cpu),
         Pending::Started(called) => match progress.operation(called) {
-            Some(op) => operation_row(progress, held, progress.levels(), op),
-            None => open_row(progress, held),
+            Some(op) => operation_row(progress, held, progress.levels(), op, told),
+            None => open_row(progress, held, told),
         },
     }
 }

@@ -12,7 +12,7 @@ use crate::lying::Lying;
 use crate::turned::Turned;
 use crate::words::Words;
 use cpu_program::Program;
-use sync_words::{Access, Applied, Event, Hand, LOCKED, Want, WordId, apply};
+use sync_words::{Access, Applied, Event, Hand, LOCKED, Label, Want, WordId, apply};
 
 // An access of an actor.
 #[derive(Clone, Copy)]
@@ -39,12 +39,14 @@ fn tell(
     ensures capacity { vec_capacity events.new ≡ vec_capacity events.old }
     ensures after { program.new ≡ (taken program.old (found_of applied)).after }
 {
+    let mut label = Label::Silent;
+    program.conclude(applied, &mut label);
     events.push_reserved(Event {
         actor: attempt.me,
         word: attempt.word,
         access: attempt.access,
         found: applied.found(),
-        label: program.conclude(applied),
+        label,
     });
     Turned::Event
 }

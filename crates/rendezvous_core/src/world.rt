@@ -163,8 +163,8 @@ impl World {
     /// Steps all actors one after the other, the processors by number and then the chipset, round after round, until every
     /// one is off. An actor that waits isn't asked again before a word may have changed. It takes no memory.
     ///
-    /// There is room for the events of every schedule, and nothing is ever stuck from here on: so it is wherever a schedule
-    /// leads on a platform, by a law above this crate.
+    /// There are at most 64 processors, there is room for the events of every schedule, and nothing is ever stuck from here
+    /// on: so it is wherever a schedule leads on a platform, by a law above this crate.
     pub fn finish(&mut self)
         requires few { self.old.processors ≤ 64 }
         requires goes_on { IsNeverStuck self.old.world }

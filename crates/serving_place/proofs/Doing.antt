@@ -17,24 +17,31 @@ use Rattle.serving_place.specs.Forms.{Program, operations_of, turn_of}
 use Rattle.serving_place.specs.Places.{Place, OpenWalk, Begun, Started, Awaited, awaits_after, begun_by, levels_left, with_walk, after_operating, after_doing, after_in_walk, after_in_walks}
 use Rattle.serving_place.specs.Due.{Due, Saying as Says, Doing, due_left, due_turn, due_turns, due_in_walk, due_in_walks}
 use Rattle.serving_place.specs.Progresses.{begun_in}
-use Rattle.serving_place.specs.Sayings.{Saying, Known, Allocation, Release, Fits, operation_due, label_in}
+use Rattle.serving_place.specs.declared.saying.Request.TheVariants as request
+use Rattle.serving_place.specs.Sayings.{Saying, Request, Known, Allocation, Release, Fits, operation_due, label_in, known_label, request_in, said_as}
 use Rattle.serving_place.specs.Moves.{operated, awaited_by, pending_by, manage_kind, entered}
 
-pub known_at : (y : Saying) (s : Serving) (pool : PoolState) → Fits y None s → y ≡ Known (label_in pool y)
-known_at (Known l) s pool h = refl
-known_at (Allocation n) s pool h = absurd h
-known_at (Release n) s pool h = absurd h
+-- what is said is its request and its label
+pub saying_parts : (y : Saying) → said_as (request_in y) (known_label y) ≡ y
+saying_parts (Known l) = refl
+saying_parts (Allocation n) = refl
+saying_parts (Release n) = refl
 
-known_where : (o : Option OpDef) (y : Saying) (s : Serving) (pool : PoolState) → o ≡ None → Fits y o s → y ≡ Known (label_in pool y)
-known_where None y s pool e h = known_at y s pool h
-known_where (Some o) y s pool e h = absurd cc
+pub known_at : (r : Request) (l : Label) (s : Serving) (pool : PoolState) → Fits (said_as r l) None s → l ≡ label_in pool (said_as r l)
+known_at request.Nothing l s pool h = refl
+known_at (request.Allocation n) l s pool h = absurd h
+known_at (request.Release n) l s pool h = absurd h
+
+known_where : (o : Option OpDef) (r : Request) (l : Label) (s : Serving) (pool : PoolState) → o ≡ None → Fits (said_as r l) o s → l ≡ label_in pool (said_as r l)
+known_where None r l s pool e h = known_at r l s pool h
+known_where (Some o) r l s pool e h = absurd cc
 
 none_spent : (n : ℕ) (d : Due) → n ≡ 0 → operation_due (due_left n d) ≡ None
 none_spent zero d e = refl
 none_spent (suc n) d e = absurd (omega (arith, e))
 
-pub known_spent : (n : ℕ) (d : Due) (y : Saying) (s : Serving) (pool : PoolState) → n ≡ 0 → Fits y (operation_due (due_left n d)) s → y ≡ Known (label_in pool y)
-known_spent n d y s pool e h = known_where (operation_due (due_left n d)) y s pool (none_spent n d e) h
+pub known_spent : (n : ℕ) (d : Due) (r : Request) (l : Label) (s : Serving) (pool : PoolState) → n ≡ 0 → Fits (said_as r l) (operation_due (due_left n d)) s → l ≡ label_in pool (said_as r l)
+known_spent n d r l s pool e h = known_where (operation_due (due_left n d)) r l s pool (none_spent n d e) h
 
 none_said : (n : ℕ) (l : Label) → operation_due (due_left n (Says l)) ≡ None
 none_said zero l = refl
@@ -49,23 +56,24 @@ none_turns kind (n ∷ turns) r g left = at_turn (turn_of kind g n) (none_turns 
     at_turn None h = h
     at_turn (Some x) h = none_said left (say.Call x.handler)
 
-pub known_turns : (kind : HandlerType) (turns : List ℕ) (r : Running) (g : Registrations) (left : ℕ) (y : Saying) (s : Serving) (pool : PoolState)
-    → Fits y (operation_due (due_turns kind turns r g left)) s → y ≡ Known (label_in pool y)
-known_turns kind turns r g left y s pool h = known_where (operation_due (due_turns kind turns r g left)) y s pool (none_turns kind turns r g left) h
+pub known_turns : (kind : HandlerType) (turns : List ℕ) (running : Running) (g : Registrations) (left : ℕ) (r : Request) (l : Label) (s : Serving) (pool : PoolState)
+    → Fits (said_as r l) (operation_due (due_turns kind turns running g left)) s → l ≡ label_in pool (said_as r l)
+known_turns kind turns running g left r l s pool h = known_where (operation_due (due_turns kind turns running g left)) r l s pool (none_turns kind turns running g left) h
 
 none_entry : (program : Program) (kinds : List HandlerType) (g : Registrations) (left : ℕ) → operation_due (due_in_walks program kinds [] g left) ≡ None
 none_entry program [] g left = refl
 none_entry program (kind ∷ kinds) g left = none_said left (say.Manage kind)
 
-pub known_entry : (program : Program) (kinds : List HandlerType) (g : Registrations) (left : ℕ) (y : Saying) (s : Serving) (pool : PoolState)
-    → Fits y (operation_due (due_in_walks program kinds [] g left)) s → y ≡ Known (label_in pool y)
-known_entry program kinds g left y s pool h = known_where (operation_due (due_in_walks program kinds [] g left)) y s pool (none_entry program kinds g left) h
+pub known_entry : (program : Program) (kinds : List HandlerType) (g : Registrations) (left : ℕ) (r : Request) (l : Label) (s : Serving) (pool : PoolState)
+    → Fits (said_as r l) (operation_due (due_in_walks program kinds [] g left)) s → l ≡ label_in pool (said_as r l)
+known_entry program kinds g left r l s pool h = known_where (operation_due (due_in_walks program kinds [] g left)) r l s pool (none_entry program kinds g left) h
 
-pub known_manage : (o : OpDef) (kind : HandlerType) (y : Saying) (s : Serving) (pool : PoolState) → manage_kind o ≡ Some kind → Fits y (Some o) s → y ≡ Known (label_in pool y)
-known_manage (op.Manage kind) k (Known l) s pool e h = refl
-known_manage (op.Manage kind) k (Allocation n) s pool e h = absurd h
-known_manage (op.Manage kind) k (Release n) s pool e h = absurd h
-known_manage _ k y s pool e h = absurd cc
+pub known_manage : (o : OpDef) (kind : HandlerType) (r : Request) (l : Label) (s : Serving) (pool : PoolState) → manage_kind o ≡ Some kind → Fits (said_as r l) (Some o) s
+    → l ≡ label_in pool (said_as r l)
+known_manage (op.Manage kind) k request.Nothing l s pool e h = refl
+known_manage (op.Manage kind) k (request.Allocation n) l s pool e h = absurd h
+known_manage (op.Manage kind) k (request.Release n) l s pool e h = absurd h
+known_manage _ k r l s pool e h = absurd cc
 
 -- an operation that begins with a unit is the one that is due
 pub begins_fit : (n : ℕ) (m : ℕ) (o : OpDef) (y : Saying) (s : Serving) → n ≢ 0 → Fits y (operation_due (due_left n (Doing m o))) s → Fits y (Some o) s

@@ -10,6 +10,8 @@ use Rattle.sync_words.specs.declared.label.Label.{Label}
 use Rattle.sync_words.specs.declared.label.Label.TheVariants as say
 pub use Rattle.serving_place.specs.declared.saying.Saying.{Saying}
 pub use Rattle.serving_place.specs.declared.saying.Saying.TheVariants.{Known, Allocation, Release}
+pub use Rattle.serving_place.specs.declared.saying.Request.{Request}
+use Rattle.serving_place.specs.declared.saying.Request.TheVariants as request
 use Rattle.serving_place.specs.Serving.{Serving, tokens_out}
 use Rattle.serving_place.specs.Operations.{free_status, alloc_label}
 use Rattle.serving_place.specs.Due.{Due, Doing}
@@ -19,6 +21,18 @@ abbrev pub label_in : PoolState → Saying → Label
 label_in pool (Known l) = l
 label_in pool (Allocation size) = alloc_label size (allocated size pool).0
 label_in pool (Release place) = say.Free place (free_status (freed place pool).0)
+
+-- what is said by a label that is known before, or by what the pool answers
+abbrev pub said_as : Request → Label → Saying
+said_as request.Nothing l = Known l
+said_as (request.Allocation size) l = Allocation size
+said_as (request.Release place) l = Release place
+
+-- what is asked of the pool
+abbrev pub request_in : Saying → Request
+request_in (Known l) = request.Nothing
+request_in (Allocation size) = request.Allocation size
+request_in (Release place) = request.Release place
 
 -- the operation that is due
 abbrev pub operation_due : Due → Option OpDef

@@ -16,7 +16,7 @@ pub use beginning::{free_seats, pool_of_platform, registered};
 pub use laws::{serving_lists, standing};
 pub use place::next_handler;
 pub use progress::{Called, MOST_LEVELS, Pending, Progress, Walk};
-pub use saying::Saying;
+pub use saying::{Request, Saying};
 pub use seat::Seat;
 pub use state::{State, pool_status};
 pub use token::{MOST_TOKENS, Token, TokenState, Tokens};

@@ -4,11 +4,11 @@ ghost use Rattle.serving_place.specs.Forms.{Own, status_of, operations_of, opera
 ghost use Rattle.serving_place.specs.Places.{levels_left, ended, place_at, at_left, with_walk, with_return, after_turn, after_in_call, after_in_walks, after_doing, next};
 ghost use Rattle.serving_place.specs.Due.{due, due_in_call, due_in_walks};
 ghost use Rattle.serving_place.specs.Progresses.{program_in, place_in, walk_of, walks_in, call_of, turns_of};
-ghost use Rattle.serving_place.specs.Sayings.{Fits, Known, label_in, known_label, operation_due};
+ghost use Rattle.serving_place.specs.Sayings.{Fits, label_in, known_label, operation_due, request_in, said_as};
 ghost use Rattle.serving_place.specs.Moves.{pending_by, awaited_by, manage_kind, entered};
 
 use crate::progress::{Called, Pending, Progress, Walk};
-use crate::saying::Saying;
+use crate::saying::{Request, Saying};
 use cpu_table::{HandlerDef, OpDef};
 use smi_manage::Manage;
 use smm_base::HandlerType;
@@ -36,12 +36,12 @@ fn awaited_by(op: &OpDef) -> Pending
 }
 
 // What is to be said after what an operation said.
-fn pending_by(called: Called, op: &OpDef, saying: &Saying) -> Pending
-    ensures { result ≡ pending_by called op.now (known_label saying.now) }
+fn pending_by(called: Called, op: &OpDef, label: &Label) -> Pending
+    ensures { result ≡ pending_by called op.now label.now }
 {
-    match saying {
-        Saying::Known(Label::Collect(_)) => Pending::Started(called),
-        Saying::Known(Label::Start { .. }) => awaited_by(op),
+    match label {
+        Label::Collect(_) => Pending::Started(called),
+        Label::Start { .. } => awaited_by(op),
         _ => Pending::Nothing,
     }
 }
@@ -194,13 +194,13 @@ impl Progress {
 impl Progress {
     /// The operation says its own label, or the collect of a job before it; a manage opens a walk.
     #[tactic(auto, using(crate::proofs::Doing::known_manage, crate::proofs::Doing::doing_manage, crate::proofs::Doing::doing_other))]
-    fn operate(&mut self, called: Called, saying: &mut Saying)
+    fn operate(&mut self, called: Called, request: &Request, label: &mut Label)
         requires begun { self.old.pending ≡ pending.Nothing }
         requires room { 4 ≤ vec_capacity self.old.walks }
-        requires fits { IsSomeAnd (slice_get (operations_of (program_in self.old) called.handler) called.at) (λ o. Fits saying.old (Some o) self.old.state) }
-        ensures said { saying.new ≡ Known (label_in self.old.state.pool saying.old) }
+        requires fits { IsSomeAnd (slice_get (operations_of (program_in self.old) called.handler) called.at) (λ o. Fits (said_as request.now label.old) (Some o) self.old.state) }
+        ensures said { label.new ≡ label_in self.old.state.pool (said_as request.now label.old) }
         ensures place { IfSome (slice_get (operations_of (program_in self.old) called.handler) called.at)
-            (λ o. place_in self.new ≡ after_doing (levels_left (place_in self.old).walks) (place_in self.old).kinds (place_in self.old).walks o self.old.state (label_in self.old.state.pool saying.old)) }
+            (λ o. place_in self.new ≡ after_doing (levels_left (place_in self.old).walks) (place_in self.old).kinds (place_in self.old).walks o self.old.state (label_in self.old.state.pool (said_as request.now label.old))) }
         ensures stays { self.new ≡ record self.old { walks = self.new.walks; pending = self.new.pending; state = self.new.state } }
         ensures room { vec_capacity self.new.walks ≡ vec_capacity self.old.walks }
     {
@@ -209,8 +209,8 @@ impl Progress {
             match manage_kind(op) {
                 Some(kind) => self.open_walk(kind),
                 None => {
-                    self.state.operate(op, saying);
-                    self.pending = pending_by(called, op, saying);
+                    self.state.operate(op, request, label);
+                    self.pending = pending_by(called, op, label);
                 }
             }
         }
@@ -218,15 +218,15 @@ impl Progress {
 
     /// A handler that is being called goes on to its next operation, in a unit of its own, or returns.
     #[tactic(auto, using(crate::proofs::Doing::known_at, crate::proofs::Doing::known_spent, crate::proofs::Doing::begins_fit, crate::proofs::Stack::at_left_none, crate::proofs::Stack::at_left_some))]
-    fn in_call(&mut self, walk: &Walk, called: Called, saying: &mut Saying)
+    fn in_call(&mut self, walk: &Walk, called: Called, request: &Request, label: &mut Label)
         requires begun { self.old.pending ≡ pending.Nothing }
         requires room { 4 ≤ vec_capacity self.old.walks }
         requires some { 0 < length self.old.walks.items }
         requires called { walk.now.called ≡ Some called }
-        requires fits { Fits saying.old (operation_due (due_in_call (program_in self.old) (levels_left (place_in self.old).walks) called.handler (call_of (program_in self.old) called).ops self.old.state.left)) self.old.state }
-        ensures said { saying.new ≡ Known (label_in self.old.state.pool saying.old) }
+        requires fits { Fits (said_as request.now label.old) (operation_due (due_in_call (program_in self.old) (levels_left (place_in self.old).walks) called.handler (call_of (program_in self.old) called).ops self.old.state.left)) self.old.state }
+        ensures said { label.new ≡ label_in self.old.state.pool (said_as request.now label.old) }
         ensures place { place_in self.new ≡ after_in_call (program_in self.old) (place_in self.old).kinds (walks_in (program_in self.old) (take (length self.old.walks.items - 1) self.old.walks.items))
-            (walk_of (program_in self.old) walk.now) called.handler (call_of (program_in self.old) called).ops self.old.state (label_in self.old.state.pool saying.old) }
+            (walk_of (program_in self.old) walk.now) called.handler (call_of (program_in self.old) called).ops self.old.state (label_in self.old.state.pool (said_as request.now label.old)) }
         ensures stays { self.new ≡ record self.old { entry = self.new.entry; walks = self.new.walks; pending = self.new.pending; state = self.new.state } }
         ensures room { vec_capacity self.new.walks ≡ vec_capacity self.old.walks }
     {
@@ -244,7 +244,7 @@ impl Progress {
                             at: called.at + 1,
                         }),
                     });
-                    self.operate(called, saying);
+                    self.operate(called, request, label);
                 }
             }
         }
@@ -252,48 +252,52 @@ impl Progress {
 
     /// The same where nothing that was begun is still to be said.
     #[tactic(auto, using(crate::proofs::Doing::known_entry, crate::proofs::Doing::known_turns, crate::proofs::Doing::entered_is, crate::proofs::Doing::in_walks_is, crate::proofs::Doing::due_in_walks_is))]
-    fn say_open(&mut self, saying: &mut Saying)
+    fn say_open(&mut self, request: &Request, label: &mut Label)
         requires begun { self.old.pending ≡ pending.Nothing }
         requires room { 4 ≤ vec_capacity self.old.walks }
-        requires fits { Fits saying.old (operation_due (due_in_walks (program_in self.old) (place_in self.old).kinds (place_in self.old).walks self.old.state.registrations self.old.state.left)) self.old.state }
-        ensures said { saying.new ≡ Known (label_in self.old.state.pool saying.old) }
-        ensures place { place_in self.new ≡ after_in_walks (program_in self.old) (place_in self.old).kinds (place_in self.old).walks self.old.state (label_in self.old.state.pool saying.old) }
+        requires fits { Fits (said_as request.now label.old) (operation_due (due_in_walks (program_in self.old) (place_in self.old).kinds (place_in self.old).walks self.old.state.registrations self.old.state.left)) self.old.state }
+        ensures said { label.new ≡ label_in self.old.state.pool (said_as request.now label.old) }
+        ensures place { place_in self.new ≡ after_in_walks (program_in self.old) (place_in self.old).kinds (place_in self.old).walks self.old.state (label_in self.old.state.pool (said_as request.now label.old)) }
         ensures stays { self.new ≡ record self.old { entry = self.new.entry; walks = self.new.walks; pending = self.new.pending; state = self.new.state } }
         ensures room { vec_capacity self.new.walks ≡ vec_capacity self.old.walks }
     {
         match self.top() {
             None => self.next_entry(),
-            Some(walk) => match walk.called {
-                None => self.next_turn(walk),
-                Some(called) => self.in_call(&walk, called, saying),
-            },
+            Some(walk) => {
+                let walk = *walk;
+                match walk.called {
+                    None => self.next_turn(walk),
+                    Some(called) => self.in_call(&walk, called, request, label),
+                }
+            }
         }
     }
 
-    /// What is said is known then, with what it changes.
+    /// A label is said, with what it changes; that of a request is what the pool answers.
     #[tactic(auto, using(crate::proofs::Doing::known_at))]
-    pub fn say_on(&mut self, saying: &mut Saying)
+    pub fn say_on(&mut self, request: &Request, label: &mut Label)
         requires room { 4 ≤ vec_capacity self.old.walks }
-        requires fits { Fits saying.old (operation_due (due (program_in self.old) (place_in self.old))) self.old.state }
-        ensures said { saying.new ≡ Known (label_in self.old.state.pool saying.old) }
-        ensures place { place_in self.new ≡ next (program_in self.old) (place_in self.old) (Own (label_in self.old.state.pool saying.old)) }
+        requires fits { Fits (said_as request.now label.old) (operation_due (due (program_in self.old) (place_in self.old))) self.old.state }
+        ensures said { label.new ≡ label_in self.old.state.pool (said_as request.now label.old) }
+        ensures place { place_in self.new ≡ next (program_in self.old) (place_in self.old) (Own (label_in self.old.state.pool (said_as request.now label.old))) }
         ensures stays { self.new ≡ record self.old { entry = self.new.entry; walks = self.new.walks; pending = self.new.pending; state = self.new.state } }
         ensures room { vec_capacity self.new.walks ≡ vec_capacity self.old.walks }
     {
         let pending = self.pending;
         self.pending = Pending::Nothing;
         match pending {
-            Pending::Nothing => self.say_open(saying),
+            Pending::Nothing => self.say_open(request, label),
             Pending::First(_) => {}
             Pending::Awaited { cpu, into } => self.state.return_to(cpu, into),
             Pending::Started(called) => match self.operation(called) {
-                Some(_) => self.operate(called, saying),
-                None => self.say_open(saying),
+                Some(_) => self.operate(called, request, label),
+                None => self.say_open(request, label),
             },
         }
     }
 
-    /// A label is said, with what it changes.
+    /// The same of what is said by its value.
+    #[tactic(auto, using(crate::proofs::Doing::saying_parts))]
     pub fn say(&mut self, saying: Saying) -> Label
         requires room { 4 ≤ vec_capacity self.old.walks }
         requires fits { Fits saying (operation_due (due (program_in self.old) (place_in self.old))) self.old.state }
@@ -302,8 +306,8 @@ impl Progress {
         ensures stays { self.new ≡ record self.old { entry = self.new.entry; walks = self.new.walks; pending = self.new.pending; state = self.new.state } }
         ensures room { vec_capacity self.new.walks ≡ vec_capacity self.old.walks }
     {
-        let mut said = saying;
-        self.say_on(&mut said);
-        said.known()
+        let mut label = saying.known();
+        self.say_on(&saying.request(), &mut label);
+        label
     }
 }

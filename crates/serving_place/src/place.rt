@@ -118,11 +118,11 @@ fn walks_of(waves: &[Wave], wave: u32) -> &[HandlerType]
 
 impl Progress {
     /// The walk that was opened last.
-    pub fn top(&self) -> Option<Walk>
+    pub fn top(&self) -> Option<&Walk>
         ensures some { IsSome result → 0 < length self.now.walks.items }
-        ensures walks { MatchOption result ((place_in self.now).walks ≡ []) (λ w. (place_in self.now).walks ≡ walk_of (program_in self.now) w ∷ walks_in (program_in self.now) (take (length self.now.walks.items - 1) self.now.walks.items)) }
+        ensures walks { MatchOption result ((place_in self.now).walks ≡ []) (λ w. (place_in self.now).walks ≡ walk_of (program_in self.now) w.now ∷ walks_in (program_in self.now) (take (length self.now.walks.items - 1) self.now.walks.items)) }
     {
-        self.walks.last().copied()
+        self.walks.last()
     }
 
     /// How many levels may be opened above the open walks.

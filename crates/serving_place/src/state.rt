@@ -5,11 +5,11 @@ ghost use Rattle.smram_pool.specs.State.{allocated, freed};
 ghost use Rattle.sync_words.specs.declared.label.Label.TheVariants as say;
 ghost use Rattle.serving_place.specs.Serving.{Free, number, put, put_on, seat, given_to, run_at, ran, collected, returned, token_of, with_token, owes_token, owner, dropped, has_token, tokens_out};
 ghost use Rattle.serving_place.specs.Operations.{register_on, drop_on, pool_status, free_status, alloc_label};
-ghost use Rattle.serving_place.specs.Sayings.{Known, Fits, IsAlloc, IsFreeing, RegisterFits, label_in};
+ghost use Rattle.serving_place.specs.Sayings.{Known, Fits, IsAlloc, IsFreeing, RegisterFits, label_in, said_as};
 ghost use Rattle.serving_place.specs.Moves.{operated};
 ghost use Rattle.serving_place.specs.Beginning.{cleared};
 
-use crate::saying::Saying;
+use crate::saying::Request;
 use crate::seat::Seat;
 use crate::token::{Token, TokenState, Tokens};
 use cpu_table::{OpDef, Operand};
@@ -258,21 +258,15 @@ impl State {
 impl State {
     /// An operation says its own label, or the collect of a job before it. A call of the pool is made, and what the pool answers
     /// is said then.
-    pub fn operate(&mut self, op: &OpDef, saying: &mut Saying)
-        requires { Fits saying.old (Some op.now) self.old }
-        ensures said { saying.new ≡ Known (label_in self.old.pool saying.old) }
-        ensures after { self.new ≡ operated op.now self.old (label_in self.old.pool saying.old) }
+    pub fn operate(&mut self, op: &OpDef, request: &Request, label: &mut Label)
+        requires { Fits (said_as request.now label.old) (Some op.now) self.old }
+        ensures said { label.new ≡ label_in self.old.pool (said_as request.now label.old) }
+        ensures after { self.new ≡ operated op.now self.old (label_in self.old.pool (said_as request.now label.old)) }
     {
-        match saying {
-            Saying::Known(label) => self.apply(op, label),
-            Saying::Allocation(size) => {
-                let size = *size;
-                *saying = Saying::Known(self.allocate(op, size));
-            }
-            Saying::Release(place) => {
-                let place = *place;
-                *saying = Saying::Known(self.release(op, place));
-            }
+        match request {
+            Request::Nothing => self.apply(op, label),
+            Request::Allocation(size) => self.allocate(op, *size, label),
+            Request::Release(place) => self.release(op, *place, label),
         }
     }
 
@@ -331,9 +325,10 @@ impl State {
     }
 
     #[tactic(auto, using(crate::proofs::Changes::refused_put))]
-    fn allocate(&mut self, op: &OpDef, size: u64) -> Label
+    #[inline(never)]
+    fn allocate(&mut self, op: &OpDef, size: u64, label: &mut Label)
         requires { IsAlloc op.now }
-        ensures label { result ≡ alloc_label size (allocated size self.old.pool).0 }
+        ensures said { label.new ≡ alloc_label size (allocated size self.old.pool).0 }
         ensures after { self.new ≡ operated op.now self.old (alloc_label size (allocated size self.old.pool).0) }
     {
         match self.pool.alloc(size) {
@@ -341,23 +336,26 @@ impl State {
                 if let OpDef::Alloc { into, .. } = op {
                     self.put(*into, place);
                 }
-                Label::Alloc {
+                *label = Label::Alloc {
                     size,
                     place,
                     status: Status::Success,
-                }
+                };
             }
-            Err(error) => Label::Alloc {
-                size,
-                place: 0,
-                status: pool_status(error),
-            },
+            Err(error) => {
+                *label = Label::Alloc {
+                    size,
+                    place: 0,
+                    status: pool_status(error),
+                };
+            }
         }
     }
 
-    fn release(&mut self, op: &OpDef, place: u64) -> Label
+    #[inline(never)]
+    fn release(&mut self, op: &OpDef, place: u64, label: &mut Label)
         requires { IsFreeing op.now }
-        ensures label { result ≡ say.Free place (free_status (freed place self.old.pool).0) }
+        ensures said { label.new ≡ say.Free place (free_status (freed place self.old.pool).0) }
         ensures after { self.new ≡ operated op.now self.old (say.Free place (free_status (freed place self.old.pool).0)) }
     {
         let _ = op;
@@ -365,7 +363,7 @@ impl State {
             Ok(()) => Status::Success,
             Err(error) => pool_status(error),
         };
-        Label::Free { place, status }
+        *label = Label::Free { place, status };
     }
 }
 

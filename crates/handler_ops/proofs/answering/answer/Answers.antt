@@ -11,5 +11,5 @@ use Rattle.handler_ops.proofs.answering.answer.Goals as goal
 pub speak-requires-in-Reading-clause-fits : goal.speak-requires-in-Reading-clause-fits
 speak-requires-in-Reading-clause-fits c =
     let due_now = operation_due (due (program_in c.args.progress.now) (place_in c.args.progress.now)) in
-    subst (λ (l : Label). Fits (Known l) due_now c.args.progress.now.state) (sym c.read_at_hand-label.ensures)
+    subst (λ (l : Label). Fits (Known l) due_now c.args.progress.now.state) (sym c.read_at_hand.ensures)
     (read_fits (setting_in c.args.progress.now) c.in-Reading.cpu c.in-Reading.reg c.in-Reading.width c.args.desks.now due_now c.args.progress.now.state)

@@ -12,12 +12,12 @@ serve_on-requires c =
     record {
       own = c.requires.ready.own;
       held =
-          ap (λ (held : Desks). length held) c.answer-label.ensures.desks ∙ answered_len c.in-Some.server.told c.args.found c.args.self.now.held.desks
+          ap (λ (held : Desks). length held) c.answer_on.ensures.desks ∙ answered_len c.in-Some.server.told c.args.found c.args.self.now.held.desks
           ∙ c.requires.ready.held;
       chair =
-          ap (λ (s : Session). s.setup.processors) c.answer-label.ensures.after
+          ap (λ (s : Session). s.setup.processors) c.answer_on.ensures.after
           ∙ subst (λ (o : Option Session). IfSome o (HasProcessors c.args.self.now.identity.setup.processors)) c.in-Some.is c.requires.ready.chair;
     }
 
-pub answer-label-requires-clause-at_hand : goal.answer-label-requires-clause-at_hand
-answer-label-requires-clause-at_hand c = serving_at_hand c.args.self.now.identity.setup.processors c.args.self.now.chair c.in-Some.server c.args.self.now.held.desks c.in-Some.is c.requires.told
+pub answer_on-requires-clause-at_hand : goal.answer_on-requires-clause-at_hand
+answer_on-requires-clause-at_hand c = serving_at_hand c.args.self.now.identity.setup.processors c.args.self.now.chair c.in-Some.server c.args.self.now.held.desks c.in-Some.is c.requires.told

@@ -8,7 +8,7 @@ use Rattle.handler_ops.specs.Sessions.{Session, session_in, course_in}
 use Rattle.serving_place.specs.Progresses.{Goes, IsGoing, program_in, setting_in, place_in}
 use Rattle.handler_ops.specs.Answering.{HasTold, RowFits, move_as}
 use Rattle.handler_ops.proofs.Going.{told_fits, answer_goes}
-use Rattle.handler_ops.proofs.server.Server.answer.Goals as goal
+use Rattle.handler_ops.proofs.server.Server.answer_on.Goals as goal
 
 pub answer-requires-clause-fits : goal.answer-requires-clause-fits
 answer-requires-clause-fits c =
@@ -30,8 +30,8 @@ invariant_of-self c =
       room = rw (c.answer.ensures.room) going.room;
     }
 
-pub returns-clause-label : goal.returns-clause-label
-returns-clause-label c =
-    c.answer.ensures.label
+pub returns-clause-said : goal.returns-clause-said
+returns-clause-said c =
+    c.answer.ensures.said
     ∙ ap (λ (p : Progress). label_of (move_as (session_in p c.self.inside.told) c.args.found c.args.held.now.desks)) c.deref_mut.ensures.value
     ∙ ap (λ (s : Session). label_of (move_as s c.args.found c.args.held.now.desks)) c.self.view_is
