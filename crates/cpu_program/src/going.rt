@@ -2,6 +2,7 @@ ghost use Rattle.std.specs.Prelude.{◌≡◌, ◌<◌, ◌≤◌, ◌^◌, leng
 ghost use Rattle.exit_handshake.specs.Desks.{desks_of};
 ghost use Rattle.sync_words.specs.Steps.{next_below};
 ghost use Rattle.cpu_program.specs.Bounds.{IsReady, IsServing};
+ghost use Rattle.cpu_program.specs.declared.part.Part.TheVariants as part;
 ghost use Rattle.cpu_program.specs.Views.{processor_in};
 ghost use Rattle.cpu_program.specs.Processors.{is_relaxed, is_elected, desks_held, close_begun, exit_begun, go_on, begin_exit, to_await, after_source, after_jobs, owes_job, to_jobs, is_at_need, with_need, served, begin_serving, taken_serving, at_row, left_to, known_bsp};
 
@@ -97,13 +98,23 @@ impl Processor {
         (from..self.identity.setup.processors).find(|cpu| owes_job(&self.chair, *cpu))
     }
 
+    // It serves. Where it does already nothing is written.
+    fn serve(&mut self)
+        ensures { processor_in self.new ≡ record (processor_in self.old) { part = part.Serving } }
+    {
+        match &self.part {
+            Part::Serving => {}
+            _ => self.part = Part::Serving,
+        }
+    }
+
     /// Serving goes on where there is a need to be met; else the jobs are collected.
     fn go_on_serving(&mut self, has_need: bool)
         requires { IsReady self.old }
         ensures { processor_in self.new ≡ with_need has_need (processor_in self.old) }
     {
         if has_need {
-            self.part = Part::Serving;
+            self.serve();
         } else {
             self.go_on(self.jobs_row(0));
         }

@@ -25,17 +25,17 @@ struct Attempt {
 
 // The event of an attempt that was accepted, of which the program is told, is kept.
 fn tell(
-    attempt: Attempt,
+    attempt: &Attempt,
     applied: Applied,
     program: &mut Program,
     events: &mut Vec<Event>,
 ) -> Turned
-    requires number { number_of program.old ≡ attempt.me }
-    requires wanted { want_of program.old ≡ want.Access attempt.word attempt.access attempt.hand }
-    requires accepted { IsAccepted attempt.access applied }
+    requires number { number_of program.old ≡ attempt.now.me }
+    requires wanted { want_of program.old ≡ want.Access attempt.now.word attempt.now.access attempt.now.hand }
+    requires accepted { IsAccepted attempt.now.access applied }
     requires room { length events.old.items < vec_capacity events.old }
     ensures turned { result ≡ turned.Event }
-    ensures event { events.new.items ≡ events.old.items ++ (event_of attempt.me attempt.word attempt.access (found_of applied) (taken program.old (found_of applied)).label ∷ []) }
+    ensures event { events.new.items ≡ events.old.items ++ (event_of attempt.now.me attempt.now.word attempt.now.access (found_of applied) (taken program.old (found_of applied)).label ∷ []) }
     ensures capacity { vec_capacity events.new ≡ vec_capacity events.old }
     ensures after { program.new ≡ (taken program.old (found_of applied)).after }
 {
@@ -55,7 +55,7 @@ fn tell(
 #[inline(never)]
 #[tactic(auto, using(crate::proofs::NumberLemmas::given_number))]
 fn give(
-    attempt: Attempt,
+    attempt: &Attempt,
     new: u32,
     found: u32,
     words: &mut Words,
@@ -63,17 +63,17 @@ fn give(
     program: &mut Program,
     events: &mut Vec<Event>,
 ) -> Turned
-    requires number { number_of program.old ≡ attempt.me }
-    requires wanted { want_of program.old ≡ want.Access attempt.word attempt.access attempt.hand }
-    requires accepted { IsAccepted attempt.access (applied.Changed new found) }
+    requires number { number_of program.old ≡ attempt.now.me }
+    requires wanted { want_of program.old ≡ want.Access attempt.now.word attempt.now.access attempt.now.hand }
+    requires accepted { IsAccepted attempt.now.access (applied.Changed new found) }
     requires fits { new ≤ LOCKED }
     requires room { length events.old.items < vec_capacity events.old }
-    ensures turned { result ≡ turned_of (stepped_by (gives words.old lying.old attempt.me attempt.word attempt.access new found program.old (gift_of program.old))) }
-    ensures events { events.new.items ≡ events_with (stepped_by (gives words.old lying.old attempt.me attempt.word attempt.access new found program.old (gift_of program.old))) events.old.items }
+    ensures turned { result ≡ turned_of (stepped_by (gives words.old lying.old attempt.now.me attempt.now.word attempt.now.access new found program.old (gift_of program.old))) }
+    ensures events { events.new.items ≡ events_with (stepped_by (gives words.old lying.old attempt.now.me attempt.now.word attempt.now.access new found program.old (gift_of program.old))) events.old.items }
     ensures capacity { vec_capacity events.new ≡ vec_capacity events.old }
-    ensures words { words.new ≡ words_by (gives words.old lying.old attempt.me attempt.word attempt.access new found program.old (gift_of program.old)) words.old }
-    ensures lying { lying.new ≡ lying_by (gives words.old lying.old attempt.me attempt.word attempt.access new found program.old (gift_of program.old)) lying.old }
-    ensures actor { program.new ≡ actor_by (gives words.old lying.old attempt.me attempt.word attempt.access new found program.old (gift_of program.old)) program.old }
+    ensures words { words.new ≡ words_by (gives words.old lying.old attempt.now.me attempt.now.word attempt.now.access new found program.old (gift_of program.old)) words.old }
+    ensures lying { lying.new ≡ lying_by (gives words.old lying.old attempt.now.me attempt.now.word attempt.now.access new found program.old (gift_of program.old)) lying.old }
+    ensures actor { program.new ≡ actor_by (gives words.old lying.old attempt.now.me attempt.now.word attempt.now.access new found program.old (gift_of program.old)) program.old }
 {
     if !program.has_gift(attempt.hand) {
         return Turned::Waiting(found);
@@ -88,7 +88,7 @@ fn give(
 #[inline(never)]
 #[tactic(auto, using(crate::proofs::NumberLemmas::received_number))]
 fn take(
-    attempt: Attempt,
+    attempt: &Attempt,
     new: u32,
     found: u32,
     words: &mut Words,
@@ -96,17 +96,17 @@ fn take(
     program: &mut Program,
     events: &mut Vec<Event>,
 ) -> Turned
-    requires number { number_of program.old ≡ attempt.me }
-    requires wanted { want_of program.old ≡ want.Access attempt.word attempt.access attempt.hand }
-    requires accepted { IsAccepted attempt.access (applied.Changed new found) }
+    requires number { number_of program.old ≡ attempt.now.me }
+    requires wanted { want_of program.old ≡ want.Access attempt.now.word attempt.now.access attempt.now.hand }
+    requires accepted { IsAccepted attempt.now.access (applied.Changed new found) }
     requires fits { new ≤ LOCKED }
     requires room { length events.old.items < vec_capacity events.old }
-    ensures turned { result ≡ turned_of (stepped_by (takes words.old lying.old attempt.me attempt.word attempt.access new found program.old (lying_on lying.old attempt.word))) }
-    ensures events { events.new.items ≡ events_with (stepped_by (takes words.old lying.old attempt.me attempt.word attempt.access new found program.old (lying_on lying.old attempt.word))) events.old.items }
+    ensures turned { result ≡ turned_of (stepped_by (takes words.old lying.old attempt.now.me attempt.now.word attempt.now.access new found program.old (lying_on lying.old attempt.now.word))) }
+    ensures events { events.new.items ≡ events_with (stepped_by (takes words.old lying.old attempt.now.me attempt.now.word attempt.now.access new found program.old (lying_on lying.old attempt.now.word))) events.old.items }
     ensures capacity { vec_capacity events.new ≡ vec_capacity events.old }
-    ensures words { words.new ≡ words_by (takes words.old lying.old attempt.me attempt.word attempt.access new found program.old (lying_on lying.old attempt.word)) words.old }
-    ensures lying { lying.new ≡ lying_by (takes words.old lying.old attempt.me attempt.word attempt.access new found program.old (lying_on lying.old attempt.word)) lying.old }
-    ensures actor { program.new ≡ actor_by (takes words.old lying.old attempt.me attempt.word attempt.access new found program.old (lying_on lying.old attempt.word)) program.old }
+    ensures words { words.new ≡ words_by (takes words.old lying.old attempt.now.me attempt.now.word attempt.now.access new found program.old (lying_on lying.old attempt.now.word)) words.old }
+    ensures lying { lying.new ≡ lying_by (takes words.old lying.old attempt.now.me attempt.now.word attempt.now.access new found program.old (lying_on lying.old attempt.now.word)) lying.old }
+    ensures actor { program.new ≡ actor_by (takes words.old lying.old attempt.now.me attempt.now.word attempt.now.access new found program.old (lying_on lying.old attempt.now.word)) program.old }
 {
     match lying.take(attempt.word) {
         None => Turned::Waiting(found),
@@ -120,7 +120,7 @@ fn take(
 
 // The word changes, and with it what changes hands.
 fn change(
-    attempt: Attempt,
+    attempt: &Attempt,
     new: u32,
     found: u32,
     words: &mut Words,
@@ -128,17 +128,17 @@ fn change(
     program: &mut Program,
     events: &mut Vec<Event>,
 ) -> Turned
-    requires number { number_of program.old ≡ attempt.me }
-    requires wanted { want_of program.old ≡ want.Access attempt.word attempt.access attempt.hand }
-    requires accepted { IsAccepted attempt.access (applied.Changed new found) }
+    requires number { number_of program.old ≡ attempt.now.me }
+    requires wanted { want_of program.old ≡ want.Access attempt.now.word attempt.now.access attempt.now.hand }
+    requires accepted { IsAccepted attempt.now.access (applied.Changed new found) }
     requires fits { new ≤ LOCKED }
     requires room { length events.old.items < vec_capacity events.old }
-    ensures turned { result ≡ turned_of (stepped_by (changes words.old lying.old attempt.me attempt.word attempt.access attempt.hand new found program.old)) }
-    ensures events { events.new.items ≡ events_with (stepped_by (changes words.old lying.old attempt.me attempt.word attempt.access attempt.hand new found program.old)) events.old.items }
+    ensures turned { result ≡ turned_of (stepped_by (changes words.old lying.old attempt.now.me attempt.now.word attempt.now.access attempt.now.hand new found program.old)) }
+    ensures events { events.new.items ≡ events_with (stepped_by (changes words.old lying.old attempt.now.me attempt.now.word attempt.now.access attempt.now.hand new found program.old)) events.old.items }
     ensures capacity { vec_capacity events.new ≡ vec_capacity events.old }
-    ensures words { words.new ≡ words_by (changes words.old lying.old attempt.me attempt.word attempt.access attempt.hand new found program.old) words.old }
-    ensures lying { lying.new ≡ lying_by (changes words.old lying.old attempt.me attempt.word attempt.access attempt.hand new found program.old) lying.old }
-    ensures actor { program.new ≡ actor_by (changes words.old lying.old attempt.me attempt.word attempt.access attempt.hand new found program.old) program.old }
+    ensures words { words.new ≡ words_by (changes words.old lying.old attempt.now.me attempt.now.word attempt.now.access attempt.now.hand new found program.old) words.old }
+    ensures lying { lying.new ≡ lying_by (changes words.old lying.old attempt.now.me attempt.now.word attempt.now.access attempt.now.hand new found program.old) lying.old }
+    ensures actor { program.new ≡ actor_by (changes words.old lying.old attempt.now.me attempt.now.word attempt.now.access attempt.now.hand new found program.old) program.old }
 {
     match attempt.hand {
         Hand::Give(_) => give(attempt, new, found, words, lying, program, events),
@@ -178,9 +178,9 @@ pub fn take_turn(
     };
     match apply(words.get(word), access) {
         Applied::NotReady { found } => Turned::Waiting(found),
-        Applied::Same { found } => tell(attempt, Applied::Same { found }, program, events),
+        Applied::Same { found } => tell(&attempt, Applied::Same { found }, program, events),
         Applied::Changed { new, found } => change(
-            attempt, new, found, words, lying, program, events,
+            &attempt, new, found, words, lying, program, events,
         ),
     }
 }
