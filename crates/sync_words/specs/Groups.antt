@@ -1,5 +1,7 @@
--- Groups of labels.
+-- Groups of labels, and the accesses that have numbers.
 use Rattle.std.specs.Prelude.{Bool, true, false, ◌||◌}
+use Rattle.sync_words.specs.declared.access.Access.{Access}
+use Rattle.sync_words.specs.declared.access.Access.TheVariants.{Put, Claim, Await, Seek, Raise}
 use Rattle.sync_words.specs.declared.label.Label.{Label}
 use Rattle.sync_words.specs.declared.label.Label.TheVariants.{Begin, Manage, Deep, Call, Return, Answer, Set, Read, Write, Check, Wait, Alloc, Free, Register, Unregister, Refuse, Start, Run, Collect, Spent, Done}
 
@@ -39,3 +41,12 @@ is_of_walk _ = false
 -- any of these
 abbrev pub is_served : Label → Bool
 is_served label = is_of_walk label || is_of_procedure label || is_of_service label
+
+-- the access has numbers
+abbrev pub has_numbers : Access → Bool
+has_numbers (Put new) = true
+has_numbers (Claim from new) = true
+has_numbers (Await from new) = true
+has_numbers (Seek below) = true
+has_numbers (Raise signal) = true
+has_numbers _ = false

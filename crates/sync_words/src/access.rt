@@ -1,5 +1,7 @@
-ghost use Rattle.std.specs.Prelude.{◌≡◌, ◌≤◌, Some};
+ghost use Rattle.std.specs.Prelude.{◌≡◌, ◌≤◌, IsTrue, Some};
+ghost use Rattle.std.specs.Fmt.{WritesOnOk};
 ghost use Rattle.sync_words.specs.Access.{applied, IsWithin, LeavesWord};
+ghost use Rattle.sync_words.specs.Groups.{has_numbers};
 ghost use Rattle.sync_words.specs.Steps.{found_of};
 ghost use Rattle.sync_words.specs.Texts.{access_text};
 
@@ -50,18 +52,31 @@ impl fmt::Display for Access {
     fn fmt<W: fmt::Write>(&self, f: &mut fmt::Formatter<W>) -> fmt::Result {
         match self {
             Access::Look => f.write_str("look"),
-            Access::Put(new) => write!(f, "put:{new}"),
             Access::Up => f.write_str("up"),
             Access::Down => f.write_str("down"),
             Access::Lower => f.write_str("lower"),
             Access::Lock => f.write_str("lock"),
-            Access::Claim(from, new) => write!(f, "claim:{from}:{new}"),
-            Access::Await(from, new) => write!(f, "await:{from}:{new}"),
-            Access::Seek(below) => write!(f, "seek:{below}"),
             Access::Signal => f.write_str("signal"),
             Access::TakeSmi => f.write_str("take"),
             Access::ClearSmi => f.write_str("clear"),
+            _ => self.write_numbers(f),
+        }
+    }
+}
+
+impl Access {
+    // Writes an access that has numbers.
+    fn write_numbers<W: fmt::Write>(&self, f: &mut fmt::Formatter<W>) -> fmt::Result
+        requires { IsTrue (has_numbers self.now) }
+        ensures { WritesOnOk W.write_str_gives f.old result (access_text self.now) f.new }
+    {
+        match self {
+            Access::Put(new) => write!(f, "put:{new}"),
+            Access::Claim(from, new) => write!(f, "claim:{from}:{new}"),
+            Access::Await(from, new) => write!(f, "await:{from}:{new}"),
+            Access::Seek(below) => write!(f, "seek:{below}"),
             Access::Raise(signal) => write!(f, "raise:{signal}"),
+            _ => unreachable!(),
         }
     }
 }
