@@ -128,44 +128,6 @@ fn files_are_loaded_in_their_order_and_no_others(rt: HostRuntime) -> Result<(), 
     Ok(())
 }
 
-// The platform of two processors that is generated from 1.
-const GENERATED: &str = "version = 1
-processors = 2
-map = \"intel64\"
-policy = \"elected\"
-mode = \"traditional\"
-polls = [16, 16]
-visits = 8
-ops = 64
-
-[[wave]]
-status = [\"prompt\", \"blocked\"]
-manage = [\"root\"]
-
-[[wave]]
-status = [\"prompt\", \"prompt\"]
-manage = [\"root\"]
-
-[[handler]]
-name = \"h0\"
-type = \"root\"
-answer = \"SUCCESS\"
-ops = [{op = \"write\", cpu = 0, reg = \"RAX\", width = 8, value = 5627}, {op = \"write\", cpu = 1, reg = \"RAX\", width = 8, value = 23010}]
-";
-
-#[test]
-fn a_generated_platform_is_one_that_can_be_played(rt: HostRuntime) -> Result<(), Fail> {
-    let alloc = rt.alloc();
-    let told = told(alloc, "make 1 2")?;
-    assert_eq!(rt; told.strip_prefix("0 0 0 "), Some(GENERATED));
-    let mut store = store(alloc)?;
-    store.put("G", GENERATED.as_bytes())?;
-    let mut sink = MemSink::new(alloc, 4096, Vec::new(alloc))?;
-    let status = play(alloc, &words(alloc, "step G J T A")?, &mut store, &mut sink);
-    assert_eq!(rt; status, 0);
-    Ok(())
-}
-
 // What a step comes to where these calls of the store and of the sink fail.
 fn failing(alloc: Global, load: u64, write: u64) -> Result<String, NoMemory> {
     let mut store = store(alloc)?;
@@ -204,27 +166,5 @@ fn want_of_memory_ends_a_command(rt: HostRuntime) -> Result<(), Fail> {
     let mut sink = MemSink::new(alloc, 4096, Vec::new(alloc))?;
     assert_eq!(rt; play(alloc, &step, &mut store, &mut sink), 0);
     assert_eq!(rt; sink.bytes().as_slice(), REPORT.as_bytes());
-    Ok(())
-}
-
-// The report of two processors that enter.
-const REPORT_OF_TWO: &str = "chip except put:0 0 excepted:0
-chip source put:1 0 wave:1
-chip pend0 raise:1 0 -
-chip pend1 raise:1 0 -
-p0 pend0 take 1 enter
-p1 pend1 take 1 enter
-unfinished events 6 sessions 0 unserved 1
-";
-
-#[test]
-fn the_images_of_two_processors_are_saved_in_their_order(rt: HostRuntime) -> Result<(), Fail> {
-    let alloc = rt.alloc();
-    let mut store = store(alloc)?;
-    let mut sink = MemSink::new(alloc, 4096, Vec::new(alloc))?;
-    let status = play(alloc, &words(alloc, "step Q J T A")?, &mut store, &mut sink);
-    assert_eq!(rt; status, 0);
-    assert_eq!(rt; sink.bytes().as_slice(), REPORT_OF_TWO.as_bytes());
-    assert_eq!(rt; store.file("A"), store.file("J"));
     Ok(())
 }

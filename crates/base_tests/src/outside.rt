@@ -6,21 +6,6 @@ use std::fs;
 use std::test::Fail;
 
 #[test]
-fn a_store_in_memory_holds_what_was_put_and_saved(rt: HostRuntime) -> Result<(), Fail> {
-    let alloc = rt.alloc();
-    let mut store = MemStore::new(alloc)?;
-    store.put("A", b"abc")?;
-    let loaded = store.load(alloc, "A", 3)?;
-    assert_eq!(rt; loaded.as_slice(), b"abc".as_slice());
-    store.save("A", b"x")?;
-    store.save("B", b"")?;
-    for (name, want) in [("A", Some(1)), ("B", Some(0)), ("C", None)] {
-        assert_eq!(rt; store.file(name).map(|content| content.len()), want);
-    }
-    Ok(())
-}
-
-#[test]
 fn a_store_in_memory_refuses_at_the_stated_calls(rt: HostRuntime) -> Result<(), Fail> {
     let alloc = rt.alloc();
     let mut store = MemStore::new(alloc)?;
