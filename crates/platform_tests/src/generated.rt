@@ -5,31 +5,6 @@ use smm_base::NoMemory;
 use std::alloc::Global;
 use std::test::Fail;
 
-// The file of seed 1 with two processors. The draws are 16838, 5758, 10113, 17515, 31051, 5627 and 23010.
-const SEED_1: &str = "version = 1
-processors = 2
-map = \"intel64\"
-policy = \"elected\"
-mode = \"traditional\"
-polls = [16, 16]
-visits = 8
-ops = 64
-
-[[wave]]
-status = [\"prompt\", \"blocked\"]
-manage = [\"root\"]
-
-[[wave]]
-status = [\"prompt\", \"prompt\"]
-manage = [\"root\"]
-
-[[handler]]
-name = \"h0\"
-type = \"root\"
-answer = \"SUCCESS\"
-ops = [{op = \"write\", cpu = 0, reg = \"RAX\", width = 8, value = 5627}, {op = \"write\", cpu = 1, reg = \"RAX\", width = 8, value = 23010}]
-";
-
 fn same_numbers(a: &Setup, b: &Setup) -> bool {
     a.processors == b.processors
         && a.kind == b.kind
@@ -126,9 +101,7 @@ fn are_read_back(alloc: Global, seed: u32) -> Result<bool, NoMemory> {
 }
 
 #[test]
-fn files_are_as_typed_and_read_back(rt: HostRuntime) -> Result<(), Fail> {
-    let text = generated_text(rt.alloc(), 1, 2)?;
-    assert!(rt; text.as_slice() == SEED_1.as_bytes());
+fn generated_files_are_read_back(rt: HostRuntime) -> Result<(), Fail> {
     for seed in 0..10 {
         assert!(rt; are_read_back(rt.alloc(), seed)?, "seed {seed}");
     }
