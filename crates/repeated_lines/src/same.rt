@@ -107,8 +107,8 @@ fn is_same_register(one: Register, other: Register) -> bool
 }
 
 // A label of the way through a session.
-fn is_same_step(one: Label, other: Label) -> bool
-    ensures { IsTrue result → one ≡ other }
+fn is_same_step(one: &Label, other: &Label) -> bool
+    ensures { IsTrue result → one.now ≡ other.now }
 {
     match (one, other) {
         (Label::Enter, Label::Enter)
@@ -127,61 +127,61 @@ fn is_same_step(one: Label, other: Label) -> bool
         | (Label::Gather(one), Label::Gather(other))
         | (Label::Ready(one), Label::Ready(other))
         | (Label::Expire(one), Label::Expire(other))
-        | (Label::Close(one), Label::Close(other)) => one == other,
-        (Label::Release(one), Label::Release(other)) => one == other,
-        (Label::Resume(one), Label::Resume(other)) => is_same_way(one, other),
+        | (Label::Close(one), Label::Close(other)) => *one == *other,
+        (Label::Release(one), Label::Release(other)) => *one == *other,
+        (Label::Resume(one), Label::Resume(other)) => is_same_way(*one, *other),
         _ => false,
     }
 }
 
 // A label of the walks over handlers.
-fn is_same_walk(one: Label, other: Label) -> bool
-    ensures { IsTrue result → one ≡ other }
+fn is_same_walk(one: &Label, other: &Label) -> bool
+    ensures { IsTrue result → one.now ≡ other.now }
 {
     match (one, other) {
         (Label::Spent, Label::Spent) | (Label::Done, Label::Done) => true,
-        (Label::Begin(one), Label::Begin(other)) => one == other,
-        (Label::Manage(one), Label::Manage(other)) => is_same_kind(one, other),
-        (Label::Deep(one), Label::Deep(other)) => is_same_kind(one, other),
-        (Label::Call(one), Label::Call(other)) => one == other,
+        (Label::Begin(one), Label::Begin(other)) => *one == *other,
+        (Label::Manage(one), Label::Manage(other)) => is_same_kind(*one, *other),
+        (Label::Deep(one), Label::Deep(other)) => is_same_kind(*one, *other),
+        (Label::Call(one), Label::Call(other)) => *one == *other,
         (
             Label::Return { handler, status },
             Label::Return {
                 handler: other,
                 status: its,
             },
-        ) => handler == other && is_same_status(status, its),
-        (Label::Answer(one), Label::Answer(other)) => is_same_status(one, other),
+        ) => *handler == *other && is_same_status(*status, *its),
+        (Label::Answer(one), Label::Answer(other)) => is_same_status(*one, *other),
         _ => is_same_step(one, other),
     }
 }
 
 // A label of a procedure that is started, run and waited for.
-fn is_same_procedure(one: Label, other: Label) -> bool
-    ensures { IsTrue result → one ≡ other }
+fn is_same_procedure(one: &Label, other: &Label) -> bool
+    ensures { IsTrue result → one.now ≡ other.now }
 {
     match (one, other) {
-        (Label::Collect(one), Label::Collect(other)) => one == other,
+        (Label::Collect(one), Label::Collect(other)) => *one == *other,
         (
             Label::Refuse { cpu, cause },
             Label::Refuse {
                 cpu: other,
                 cause: its,
             },
-        ) => cpu == other && is_same_cause(cause, its),
+        ) => *cpu == *other && is_same_cause(*cause, *its),
         (
             Label::Check { job, status },
             Label::Check {
                 job: other,
                 status: its,
             },
-        ) => job == other && is_same_status(status, its),
+        ) => *job == *other && is_same_status(*status, *its),
         _ => is_same_walk(one, other),
     }
 }
 
-fn is_same_label(one: Label, other: Label) -> bool
-    ensures { IsTrue result → one ≡ other }
+fn is_same_label(one: &Label, other: &Label) -> bool
+    ensures { IsTrue result → one.now ≡ other.now }
 {
     match (one, other) {
         (Label::Silent, Label::Silent) => true,
@@ -191,7 +191,7 @@ fn is_same_label(one: Label, other: Label) -> bool
                 variable: other,
                 value: its,
             },
-        ) => variable == other && value == its,
+        ) => *variable == *other && *value == *its,
         (Label::Read { .. }, Label::Read { .. }) => is_same_read(one, other),
         (Label::Write { .. }, Label::Write { .. }) => is_same_read(one, other),
         (
@@ -205,14 +205,14 @@ fn is_same_label(one: Label, other: Label) -> bool
                 place: its,
                 status: another,
             },
-        ) => size == other && place == its && is_same_status(status, another),
+        ) => *size == *other && *place == *its && is_same_status(*status, *another),
         (
             Label::Free { place, status },
             Label::Free {
                 place: other,
                 status: its,
             },
-        ) => place == other && is_same_status(status, its),
+        ) => *place == *other && is_same_status(*status, *its),
         (
             Label::Register {
                 handler,
@@ -224,21 +224,21 @@ fn is_same_label(one: Label, other: Label) -> bool
                 serial: its,
                 status: another,
             },
-        ) => handler == other && serial == its && is_same_status(status, another),
+        ) => *handler == *other && *serial == *its && is_same_status(*status, *another),
         (
             Label::Unregister { handle, status },
             Label::Unregister {
                 handle: other,
                 status: its,
             },
-        ) => handle == other && is_same_status(status, its),
+        ) => *handle == *other && is_same_status(*status, *its),
         _ => is_same_procedure(one, other),
     }
 }
 
 // A label of a register that was read or written.
-fn is_same_read(one: Label, other: Label) -> bool
-    ensures { IsTrue result → one ≡ other }
+fn is_same_read(one: &Label, other: &Label) -> bool
+    ensures { IsTrue result → one.now ≡ other.now }
 {
     match (one, other) {
         (
@@ -273,11 +273,11 @@ fn is_same_read(one: Label, other: Label) -> bool
                 status: answer,
             },
         ) => {
-            cpu == other
-                && width == wide
-                && value == its
-                && is_same_register(register, another)
-                && is_same_status(status, answer)
+            *cpu == *other
+                && *width == *wide
+                && *value == *its
+                && is_same_register(*register, *another)
+                && is_same_status(*status, *answer)
         }
         _ => false,
     }
@@ -291,5 +291,5 @@ pub fn is_same(one: &Event, other: &Event) -> bool
         && one.found == other.found
         && is_same_word(one.word, other.word)
         && is_same_access(one.access, other.access)
-        && is_same_label(one.label, other.label)
+        && is_same_label(&one.label, &other.label)
 }
