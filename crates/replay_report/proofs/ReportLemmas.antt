@@ -1,11 +1,13 @@
 -- What is used of a report that a sink takes piece by piece.
-use Rattle.std.proofs.Common.{◌≡◌, ℕ, ◌+◌, ◌<◌, length, get_or, List, [], ◌∷◌, ◌++◌, Option, Result, Ok, Err, OnErr, take, drop, ◌∙◌, refl, sym, ap, subst, append_assoc, append-nil, take-append-drop}
+use Rattle.std.proofs.Common.{◌≡◌, ℕ, ◌+◌, ◌<◌, Bool, count_by, length, get_or, List, [], ◌∷◌, ◌++◌, Option, Result, Ok, Err, OnErr, take, drop, ◌∙◌, refl, sym, ap, subst, append_assoc, append-nil, take-append-drop, arith}
 use Rattle.std.proofs.lemmas.Grind.{flat_map-append}
 use Rattle.std.proofs.lemmas.List.{take_more}
+use Rattle.std.proofs.lemmas.List.Sums.{sum_by-append}
 use Rattle.smm_base.specs.Sink.{appended, GainsPrefix, appended-append, appended-nil, GainsPrefix-whole, GainsPrefix-longer, GainsPrefix-after}
 use Rattle.sync_words.specs.declared.event.Event.{Event}
 use Rattle.sync_words.specs.Texts.{event_line}
-use Rattle.replay_report.specs.Report.{IsBuffered, event_lines}
+use Rattle.replay_report.specs.declared.report.Counts.{Counts}
+use Rattle.replay_report.specs.Report.{is_end, is_wave, is_served, one_if, AreCounts, IsBuffered, event_lines}
 
 -- nothing was taken yet
 pub buffered_start : (before : Option (List ℕ)) (buffer : List ℕ) → IsBuffered before before buffer buffer
@@ -59,3 +61,21 @@ on_err_anyway (Err _) P holds = holds
 pub on_err_follows : {T E : Type 0} (result : Result T E) (P Q : Type 0) → (P → Q) → OnErr result P → OnErr result Q
 on_err_follows (Ok _) P Q follows holds = tt
 on_err_follows (Err _) P Q follows holds = follows holds
+
+-- one event more is counted
+pub counted_more : (test : Event → Bool) (events : List Event) (i n : ℕ) (other : Event) → i < length events → n ≡ count_by test (take i events) → n + one_if (test (get_or events i other)) ≡ count_by test (take (i + 1) events)
+counted_more test events i n other within is =
+    let last : 0 + one_if (test (get_or events i other)) ≡ one_if (test (get_or events i other)) = omega arith in
+    ap (λ k. k + one_if (test (get_or events i other))) is
+    ∙ ap (λ k. count_by test (take i events) + k) (sym last)
+    ∙ sym (sum_by-append (λ event. one_if (test event)) (take i events) (get_or events i other ∷ []))
+    ∙ ap (count_by test) (sym (take_more events i other within))
+
+pub counts_more : (counts more : Counts) (events : List Event) (i : ℕ) (other : Event) → i < length events → AreCounts counts (take i events)
+    → more.sessions ≡ counts.sessions + one_if (is_end (get_or events i other).label) → more.announced ≡ counts.announced + one_if (is_wave (get_or events i other).label)
+    → more.served ≡ counts.served + one_if (is_served (get_or events i other).label) → AreCounts more (take (i + 1) events)
+counts_more counts more events i other within are sessions announced served = record {
+  sessions = sessions ∙ counted_more (λ event. is_end event.label) events i counts.sessions other within are.sessions;
+  announced = announced ∙ counted_more (λ event. is_wave event.label) events i counts.announced other within are.announced;
+  served = served ∙ counted_more (λ event. is_served event.label) events i counts.served other within are.served;
+}

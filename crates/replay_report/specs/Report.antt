@@ -7,6 +7,7 @@ use Rattle.sync_words.specs.declared.label.Label.{Label}
 use Rattle.sync_words.specs.declared.label.Label.TheVariants.{Wave, Served, End}
 use Rattle.sync_words.specs.Texts.{line_end, event_line}
 use Rattle.trace_text.specs.Last.{totals_text}
+use Rattle.replay_report.specs.declared.report.Counts.{Counts}
 
 -- the label says that a session ends
 abbrev pub is_end : Label → Bool
@@ -38,6 +39,12 @@ served_count events = count_by (λ event. is_served event.label) events
 -- how many waves were announced and not served
 abbrev pub unserved_count : List Event → ℕ
 unserved_count events = wave_count events - served_count events
+
+-- these are the counts of the events
+pub record AreCounts (counts : Counts) (events : List Event) : Type 0 where
+  pub sessions : counts.sessions ≡ session_count events
+  pub announced : counts.announced ≡ wave_count events
+  pub served : counts.served ≡ served_count events
 
 -- 1 where a test holds
 abbrev pub one_if : Bool → ℕ

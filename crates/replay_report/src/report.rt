@@ -1,9 +1,9 @@
-ghost use Rattle.std.specs.Prelude.{◌≡◌, ◌++◌, [], IsErrOf, OnErr, OnOk};
+ghost use Rattle.std.specs.Prelude.{◌≡◌, ◌<◌, ◌+◌, ◌^◌, ◌++◌, [], IfOk, IsErrOf, OnErr, OnOk};
 ghost use Rattle.smm_base.specs.Calls.{Leads};
 ghost use Rattle.smm_base.specs.Faults.{Rose};
 ghost use Rattle.smm_base.specs.Sink.{appended, GainsPrefix};
 ghost use Rattle.sync_words.specs.Texts.{event_line};
-ghost use Rattle.replay_report.specs.Report.{is_end, is_wave, is_served, one_if, session_count, wave_count, served_count, event_lines, last_line, report_text, IsBuffered};
+ghost use Rattle.replay_report.specs.Report.{is_end, is_wave, is_served, one_if, event_lines, AreCounts, last_line, report_text, IsBuffered};
 
 use repeated_lines::LineWriter;
 use smm_base::{NoMemory, Sink, WriteError, write_all};
@@ -38,29 +38,32 @@ pub fn write_report<K: Sink>(
     ensures moved { Leads K.moves out.old out.new }
 {
     let mut buffer = Vec::with_capacity(alloc, PIECE)?;
-    write_lines(processors, events, &mut buffer, out)?;
-    push_last_line(events, complete, &mut buffer, out)?;
+    let counts = write_lines(processors, events, &mut buffer, out)?;
+    push_last_line(events, counts, complete, &mut buffer, out)?;
     write_all(out, &buffer)
 }
 
-// Hands over the lines of the events, but for what is still in the buffer.
+// Hands over the lines of the events, but for what is still in the buffer, and counts the events.
 fn write_lines<K: Sink>(
     processors: u16,
     events: &[Event],
     buffer: &mut Vec<u8>,
     out: &mut K,
-) -> Result<(), WriteError>
+) -> Result<Counts, WriteError>
     requires { buffer.old.items ≡ [] }
+    ensures counted { IfOk result (λ counts. AreCounts counts events.now) }
     ensures buffered { OnOk result (IsBuffered (K.written out.old) (K.written out.new) buffer.new.items (event_lines processors events.now)) }
     ensures prefix { OnErr result (GainsPrefix (K.written out.old) (K.written out.new) (event_lines processors events.now)) }
     ensures failed { IsErrOf result WriteError.Failed → Rose (K.faults out.old) (K.faults out.new) }
     ensures moved { Leads K.moves out.old out.new }
 {
     let mut lines = LineWriter::new(processors);
+    let mut counts = Counts::new();
     for event in events {
         push_line(&mut lines, event, buffer, out)?;
+        counts.add(&event.label);
     }
-    Ok(())
+    Ok(counts)
 }
 
 // Adds an event's line to the buffer, which is handed over before where it might not fit.
@@ -83,17 +86,19 @@ fn push_line<K: Sink>(
 // Adds the last line to the buffer, which is handed over before where it might not fit.
 fn push_last_line<K: Sink>(
     events: &[Event],
+    counts: Counts,
     complete: bool,
     buffer: &mut Vec<u8>,
     out: &mut K,
 ) -> Result<(), WriteError>
+    requires { AreCounts counts events.now }
     ensures buffered { OnOk result (IsBuffered (K.written out.old) (K.written out.new) buffer.new.items (buffer.old.items ++ last_line events.now complete)) }
     ensures prefix { OnErr result (GainsPrefix (K.written out.old) (K.written out.new) buffer.old.items) }
     ensures failed { IsErrOf result WriteError.Failed → Rose (K.faults out.old) (K.faults out.new) }
     ensures moved { Leads K.moves out.old out.new }
 {
     make_room(buffer, out)?;
-    push_totals(events, complete, buffer).map_err(|_| WriteError::NoMemory)
+    push_counts(events, counts, complete, buffer).map_err(|_| WriteError::NoMemory)
 }
 
 // Hands the buffer over where a further line might not fit.
@@ -114,7 +119,19 @@ fn make_room<K: Sink>(buffer: &mut Vec<u8>, out: &mut K) -> Result<(), WriteErro
 pub fn push_totals(events: &[Event], complete: bool, out: &mut Vec<u8>) -> Result<(), NoMemory>
     ensures { OnOk result (out.new.items ≡ out.old.items ++ last_line events.now complete) }
 {
-    let counts = count(events);
+    push_counts(events, count(events), complete, out)
+}
+
+// Appends the last line of the report of these events, which were counted.
+fn push_counts(
+    events: &[Event],
+    counts: Counts,
+    complete: bool,
+    out: &mut Vec<u8>,
+) -> Result<(), NoMemory>
+    requires { AreCounts counts events.now }
+    ensures { OnOk result (out.new.items ≡ out.old.items ++ last_line events.now complete) }
+{
     let totals = Totals {
         complete,
         events: events.len() as u64,
@@ -132,20 +149,38 @@ struct Counts {
     served: u64,
 }
 
+impl Counts {
+    fn new() -> Counts
+        ensures { AreCounts result [] }
+    {
+        Counts {
+            sessions: 0,
+            announced: 0,
+            served: 0,
+        }
+    }
+
+    // Counts the event with this label.
+    fn add(&mut self, label: &Label)
+        requires sessions { self.old.sessions + 1 < 2 ^ 64 }
+        requires announced { self.old.announced + 1 < 2 ^ 64 }
+        requires served { self.old.served + 1 < 2 ^ 64 }
+        ensures sessions { self.new.sessions ≡ self.old.sessions + one_if (is_end label.now) }
+        ensures announced { self.new.announced ≡ self.old.announced + one_if (is_wave label.now) }
+        ensures served { self.new.served ≡ self.old.served + one_if (is_served label.now) }
+    {
+        self.sessions += one_if(ends_session(label));
+        self.announced += one_if(announces_wave(label));
+        self.served += one_if(serves_wave(label));
+    }
+}
+
 fn count(events: &[Event]) -> Counts
-    ensures sessions { result.sessions ≡ session_count events.now }
-    ensures announced { result.announced ≡ wave_count events.now }
-    ensures served { result.served ≡ served_count events.now }
+    ensures { AreCounts result events.now }
 {
-    let mut counts = Counts {
-        sessions: 0,
-        announced: 0,
-        served: 0,
-    };
+    let mut counts = Counts::new();
     for event in events {
-        counts.sessions += one_if(ends_session(event.label));
-        counts.announced += one_if(announces_wave(event.label));
-        counts.served += one_if(serves_wave(event.label));
+        counts.add(&event.label);
     }
     counts
 }
@@ -156,20 +191,20 @@ fn one_if(test: bool) -> u64
     if test { 1 } else { 0 }
 }
 
-fn ends_session(label: Label) -> bool
-    ensures { result ≡ is_end label }
+fn ends_session(label: &Label) -> bool
+    ensures { result ≡ is_end label.now }
 {
     matches!(label, Label::End)
 }
 
-fn announces_wave(label: Label) -> bool
-    ensures { result ≡ is_wave label }
+fn announces_wave(label: &Label) -> bool
+    ensures { result ≡ is_wave label.now }
 {
     matches!(label, Label::Wave(_))
 }
 
-fn serves_wave(label: Label) -> bool
-    ensures { result ≡ is_served label }
+fn serves_wave(label: &Label) -> bool
+    ensures { result ≡ is_served label.now }
 {
-    matches!(label, Label::Served(wave) if wave != 0)
+    matches!(label, Label::Served(wave) if *wave != 0)
 }

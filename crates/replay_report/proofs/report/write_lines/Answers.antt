@@ -1,7 +1,7 @@
 use Rattle.std.proofs.Common.{◌≤◌, [], ◌∙◌, arith}
 use Rattle.std.proofs.lemmas.Grind.{common_steps}
 use Rattle.smm_base.specs.Calls.{stays, leads_on, never_falls}
-use Rattle.replay_report.proofs.ReportLemmas.{buffered_start, buffered_line, buffered_prefix, lines_prefix, on_err_anyway}
+use Rattle.replay_report.proofs.ReportLemmas.{buffered_start, buffered_line, buffered_prefix, lines_prefix, on_err_anyway, counts_more}
 use Rattle.replay_report.proofs.report.write_lines.Goals as goal
 
 pub returns-in_err-push_line-clause-prefix : goal.returns-in_err-push_line-clause-prefix
@@ -10,6 +10,7 @@ returns-in_err-push_line-clause-prefix g c =
 
 pub loop-event-preserved : goal.loop-event-preserved
 loop-event-preserved g c = record {
+  counted = counts_more _ _ c.args.events.now c.loop-event.event-index _ c.loop-event-test.true c.loop-event.invariant.counted c.add.ensures.sessions c.add.ensures.announced c.add.ensures.served;
   buffered = buffered_line _ _ _ _ _ c.args.processors c.loop-event.event-index c.args.events.now _ c.loop-event-test.true c.loop-event.invariant.buffered
       (rw c.loop-event.invariant.platform at c.in_ok-push_line.ensures.buffered);
   platform = c.push_line.ensures.platform ∙ c.loop-event.invariant.platform;
@@ -17,7 +18,7 @@ loop-event-preserved g c = record {
 }
 
 pub loop-event-init : goal.loop-event-init
-loop-event-init g c = record { buffered = rw c.requires (buffered_start _ []); platform = c.new-lines.ensures; moved = stays }
+loop-event-init g c = record { counted = c.new-counts.ensures; buffered = rw c.requires (buffered_start _ []); platform = c.new-lines.ensures; moved = stays }
 
 pub returns-in_err-push_line-clause-failed : goal.returns-in_err-push_line-clause-failed
 returns-in_err-push_line-clause-failed g c =
