@@ -18,7 +18,7 @@ fn word_number(word: WordId) -> u32 {
     }
 }
 
-// A number of a label of serving by what differs most from one to the next, and 0 of another label.
+// A number of a label of serving by what its line begins with or what differs most from one to the next, and 0 of another label.
 fn label_number(label: Label) -> u32 {
     match label {
         Label::Call(handler) => u32::from(handler).wrapping_add(48),
@@ -36,6 +36,9 @@ fn label_number(label: Label) -> u32 {
         Label::Free { place, .. } => ((place / 32 % 256) as u32).wrapping_add(192),
         Label::Register { serial, .. } => serial.wrapping_add(208),
         Label::Unregister { handle, .. } => ((handle % 256) as u32).wrapping_add(224),
+        Label::Start { cpu, .. } => u32::from(cpu).wrapping_add(96),
+        Label::Run { .. } => 160,
+        Label::Wait { .. } => 240,
         _ => 0,
     }
 }
@@ -48,7 +51,7 @@ pub fn may_come_again(label: &Label) -> bool {
     )
 }
 
-/// Where the line of an event is kept: events of many actors, and labels that come one after the other, have different places.
+/// Where the line of an event is kept, or its opening: events of many actors, and labels that come one after the other, have different places.
 pub fn place_of(event: &Event) -> usize
     ensures { result < 256 }
 {

@@ -1,4 +1,5 @@
 ghost use Rattle.std.specs.Prelude.{◌≡◌, IsTrue};
+ghost use Rattle.repeated_lines.specs.Parts.{label_opening, OpensAs};
 
 use smm_base::{After, HandlerType, Register, Status, register_laws};
 use sync_words::{Access, Event, Label, StartRefusal, WordId};
@@ -283,13 +284,40 @@ fn is_same_read(one: &Label, other: &Label) -> bool
     }
 }
 
-/// Are they the same event? Of two labels with the number of a job it may say that they differ, since none comes again in its session.
-pub fn is_same(one: &Event, other: &Event) -> bool
-    ensures { IsTrue result → one.now ≡ other.now }
+// Labels with jobs that open alike.
+fn opens_label_as(one: &Label, other: &Label) -> bool
+    ensures { IsTrue result → label_opening one.now ≡ label_opening other.now }
+{
+    match (one, other) {
+        (Label::Start { cpu, .. }, Label::Start { cpu: other, .. }) => *cpu == *other,
+        (Label::Run { .. }, Label::Run { .. }) | (Label::Wait { .. }, Label::Wait { .. }) => true,
+        _ => false,
+    }
+}
+
+// Do the same actors the same thing to the same word, and find the same number?
+fn does_the_same(one: &Event, other: &Event) -> bool
+    ensures actor { IsTrue result → one.now.actor ≡ other.now.actor }
+    ensures word { IsTrue result → one.now.word ≡ other.now.word }
+    ensures access { IsTrue result → one.now.access ≡ other.now.access }
+    ensures found { IsTrue result → one.now.found ≡ other.now.found }
 {
     one.actor == other.actor
         && one.found == other.found
         && is_same_word(one.word, other.word)
         && is_same_access(one.access, other.access)
-        && is_same_label(&one.label, &other.label)
+}
+
+/// Have the lines of these events, each with a job, the same opening?
+pub fn opens_as(one: &Event, other: &Event) -> bool
+    ensures { IsTrue result → OpensAs one.now other.now }
+{
+    does_the_same(one, other) && opens_label_as(&one.label, &other.label)
+}
+
+/// Are they the same event? Of two labels with the number of a job it may say that they differ, since none comes again in its session.
+pub fn is_same(one: &Event, other: &Event) -> bool
+    ensures { IsTrue result → one.now ≡ other.now }
+{
+    does_the_same(one, other) && is_same_label(&one.label, &other.label)
 }
