@@ -1,7 +1,9 @@
 -- A turn whose event is kept last.
-use Rattle.std.proofs.Common.{◌≡◌, ◌-◌, ℕ, List, [], ◌∷◌, ◌++◌, Some, length, refl, sym, ap, ◌∙◌, arith, append-nil, length-append}
+use Rattle.std.proofs.Common.{◌≡◌, ◌-◌, ℕ, List, [], ◌∷◌, ◌++◌, Some, length, set, refl, sym, ap, ◌∙◌, arith, append-nil, length-append, slice_index_or}
+use Rattle.std.proofs.Math.Seq.{set-append_seam}
 use Rattle.std.specs.Prelude.{slice_get}
 use Rattle.sync_words.specs.declared.event.Event.{Event}
+use Rattle.sync_words.specs.declared.label.Label.{Label}
 use Rattle.rendezvous_core.specs.declared.stepped.Stepped.{Stepped}
 use Rattle.rendezvous_core.specs.declared.stepped.Stepped.TheVariants as stepped
 use Rattle.rendezvous_core.specs.declared.turned.Turned.{Turned}
@@ -14,6 +16,15 @@ pub events_same : (s : Stepped) (es : List Event) → events_with s es ≡ es ++
 events_same (stepped.Event e) es = refl
 events_same (stepped.Waiting found) es = sym (append-nil es)
 events_same stepped.Off es = sym (append-nil es)
+
+last_or : (es : List Event) (e d : Event) → slice_index_or (es ++ e ∷ []) (length es) d ≡ e
+last_or [] e d = refl
+last_or (x ∷ es) e d = last_or es e d
+
+-- the event that was kept last says another label
+pub label_kept : (es items : List Event) (e d kept : Event) (n : ℕ) (l : Label) → items ≡ es ++ e ∷ [] → n ≡ length es → kept ≡ slice_index_or items n d
+    → set items n (record kept { label = l }) ≡ es ++ record e { label = l } ∷ []
+label_kept es items e d kept n l is last found = rw (found, is, last, last_or es e d) (set-append_seam es e [] (record e { label = l }))
 
 last_at : (es : List Event) (e : Event) → slice_get (es ++ e ∷ []) (length es) ≡ Some e
 last_at [] e = refl

@@ -23,7 +23,7 @@ struct Attempt {
     hand: Hand,
 }
 
-// The event of an attempt that was accepted, of which the program is told, is kept.
+// The event of an attempt that was accepted is kept, and the program says its label there.
 fn tell(
     attempt: &Attempt,
     applied: Applied,
@@ -39,15 +39,15 @@ fn tell(
     ensures capacity { vec_capacity events.new ≡ vec_capacity events.old }
     ensures after { program.new ≡ (taken program.old (found_of applied)).after }
 {
-    let mut label = Label::Silent;
-    program.conclude(applied, &mut label);
+    let place = events.len();
     events.push_reserved(Event {
         actor: attempt.me,
         word: attempt.word,
         access: attempt.access,
         found: applied.found(),
-        label,
+        label: Label::Silent,
     });
+    program.conclude(applied, &mut events[place].label);
     Turned::Event
 }
 

@@ -1,4 +1,4 @@
-ghost use Rattle.std.specs.Prelude.{◌≡◌, ◌<◌, ◌≤◌, ◌-◌, IfSome, IsSomeAnd, MatchOption, Some, ◌∷◌, [], length, take, slice_get, option_copied, vec_capacity};
+ghost use Rattle.std.specs.Prelude.{◌≡◌, ◌<◌, ◌≤◌, ◌-◌, IfSome, IsSome, IsSomeAnd, MatchOption, Some, ◌∷◌, [], length, take, slice_get, option_copied, vec_capacity};
 ghost use Rattle.serving_place.specs.declared.progress.Pending.TheVariants as pending;
 ghost use Rattle.serving_place.specs.Forms.{Own, status_of, operations_of, operations_in};
 ghost use Rattle.serving_place.specs.Places.{levels_left, ended, place_at, at_left, with_walk, with_return, after_turn, after_in_call, after_in_walks, after_doing, next};
@@ -172,6 +172,7 @@ impl Progress {
 
     /// The handler that is being called returns its status.
     #[tactic(auto, using(crate::proofs::Turned::returned_walk, crate::proofs::Turned::awaits_is))]
+    #[inline(never)]
     fn handler_returns(&mut self, walk: Walk, called: Called)
         requires begun { self.old.pending ≡ pending.Nothing }
         requires some { 0 < length self.old.walks.items }
@@ -216,33 +217,63 @@ impl Progress {
         }
     }
 
+    /// The handler that is being called in the walk that was opened last returns its status.
+    fn return_from(&mut self, called: Called)
+        requires begun { self.old.pending ≡ pending.Nothing }
+        requires called { IsSomeAnd (slice_get self.old.walks.items (length self.old.walks.items - 1)) (λ w. w.called ≡ Some called) }
+        ensures place { IfSome (slice_get self.old.walks.items (length self.old.walks.items - 1)) (λ w. place_in self.new ≡ place_at (place_in self.old).kinds
+            (with_return (walk_of (program_in self.old) w) (status_of (program_in self.old) called.handler) ∷ walks_in (program_in self.old) (take (length self.old.walks.items - 1) self.old.walks.items))
+            self.old.state) }
+        ensures stays { self.new ≡ record self.old { walks = self.new.walks } }
+        ensures room { vec_capacity self.new.walks ≡ vec_capacity self.old.walks }
+    {
+        if let Some(walk) = self.top() {
+            let walk = *walk;
+            self.handler_returns(walk, called);
+        }
+    }
+
+    /// The handler that is being called in the walk that was opened last goes on to this operation.
+    fn go_on_to(&mut self, next: Called)
+        requires calling { IsSomeAnd (slice_get self.old.walks.items (length self.old.walks.items - 1)) (λ w. IsSome w.called) }
+        ensures walks { IfSome (slice_get self.old.walks.items (length self.old.walks.items - 1)) (λ w. walks_in (program_in self.old) self.new.walks.items
+            ≡ record (walk_of (program_in self.old) w) { called = Some (call_of (program_in self.old) next) } ∷ walks_in (program_in self.old) (take (length self.old.walks.items - 1) self.old.walks.items)) }
+        ensures stays { self.new ≡ record self.old { walks = self.new.walks } }
+        ensures room { vec_capacity self.new.walks ≡ vec_capacity self.old.walks }
+    {
+        if let Some(walk) = self.top() {
+            let manage = walk.manage;
+            self.set_top(Walk {
+                manage,
+                called: Some(next),
+            });
+        }
+    }
+
     /// A handler that is being called goes on to its next operation, in a unit of its own, or returns.
     #[tactic(auto, using(crate::proofs::Doing::known_at, crate::proofs::Doing::known_spent, crate::proofs::Doing::begins_fit, crate::proofs::Stack::at_left_none, crate::proofs::Stack::at_left_some))]
-    fn in_call(&mut self, walk: &Walk, called: Called, request: &Request, label: &mut Label)
+    fn in_call(&mut self, called: Called, request: &Request, label: &mut Label)
         requires begun { self.old.pending ≡ pending.Nothing }
         requires room { 4 ≤ vec_capacity self.old.walks }
         requires some { 0 < length self.old.walks.items }
-        requires called { walk.now.called ≡ Some called }
+        requires called { IsSomeAnd (slice_get self.old.walks.items (length self.old.walks.items - 1)) (λ w. w.called ≡ Some called) }
         requires fits { Fits (said_as request.now label.old) (operation_due (due_in_call (program_in self.old) (levels_left (place_in self.old).walks) called.handler (call_of (program_in self.old) called).ops self.old.state.left)) self.old.state }
         ensures said { label.new ≡ label_in self.old.state.pool (said_as request.now label.old) }
-        ensures place { place_in self.new ≡ after_in_call (program_in self.old) (place_in self.old).kinds (walks_in (program_in self.old) (take (length self.old.walks.items - 1) self.old.walks.items))
-            (walk_of (program_in self.old) walk.now) called.handler (call_of (program_in self.old) called).ops self.old.state (label_in self.old.state.pool (said_as request.now label.old)) }
+        ensures place { IfSome (slice_get self.old.walks.items (length self.old.walks.items - 1)) (λ w. place_in self.new ≡ after_in_call (program_in self.old) (place_in self.old).kinds (walks_in (program_in self.old) (take (length self.old.walks.items - 1) self.old.walks.items))
+            (walk_of (program_in self.old) w) called.handler (call_of (program_in self.old) called).ops self.old.state (label_in self.old.state.pool (said_as request.now label.old))) }
         ensures stays { self.new ≡ record self.old { entry = self.new.entry; walks = self.new.walks; pending = self.new.pending; state = self.new.state } }
         ensures room { vec_capacity self.new.walks ≡ vec_capacity self.old.walks }
     {
         match self.operation(called) {
-            None => self.handler_returns(*walk, called),
+            None => self.return_from(called),
             Some(_) => {
                 if self.state.left() == 0 {
                     self.end();
                 } else {
                     self.state.begin_unit();
-                    self.set_top(Walk {
-                        manage: walk.manage,
-                        called: Some(Called {
-                            handler: called.handler,
-                            at: called.at + 1,
-                        }),
+                    self.go_on_to(Called {
+                        handler: called.handler,
+                        at: called.at + 1,
                     });
                     self.operate(called, request, label);
                 }
@@ -263,13 +294,13 @@ impl Progress {
     {
         match self.top() {
             None => self.next_entry(),
-            Some(walk) => {
-                let walk = *walk;
-                match walk.called {
-                    None => self.next_turn(walk),
-                    Some(called) => self.in_call(&walk, called, request, label),
+            Some(walk) => match walk.called {
+                None => {
+                    let walk = *walk;
+                    self.next_turn(walk);
                 }
-            }
+                Some(called) => self.in_call(called, request, label),
+            },
         }
     }
 

@@ -120,6 +120,7 @@ impl Progress {
     /// The walk that was opened last.
     pub fn top(&self) -> Option<&Walk>
         ensures some { IsSome result → 0 < length self.now.walks.items }
+        ensures value { option_copied result ≡ slice_get self.now.walks.items (length self.now.walks.items - 1) }
         ensures walks { MatchOption result ((place_in self.now).walks ≡ []) (λ w. (place_in self.now).walks ≡ walk_of (program_in self.now) w.now ∷ walks_in (program_in self.now) (take (length self.now.walks.items - 1) self.now.walks.items)) }
     {
         self.walks.last()
